@@ -1,0 +1,7 @@
+-- What the address crate promises, in definitions and statements alone.
+pub mod Choice
+pub mod Bits
+pub mod Steps
+pub mod Address
+pub mod Reading
+pub mod Octets
