@@ -84,3 +84,6 @@ drop-octets (suc k) (o ∷ os) all = drop-octets k os (all .1)
 -- at most eight octets give a number of 64 bits
 pub value-fits : (os : List ℕ) → AreOctets os → length os ≤ 8 → value os < 2 ^ 64
 value-fits os all h = lt-of-lt-of-le (value-lt os all) (pow-le-pow-right (lit< tt) h)
+
+pub value-mod : (os : List ℕ) → AreOctets os → length os ≤ 8 → value os % 2 ^ 64 ≡ value os
+value-mod os all h = mod-eq-of-lt (value-fits os all h)

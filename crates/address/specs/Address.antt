@@ -45,10 +45,18 @@ pub record Answer : Type 0 where
   pub refusal : ℕ
   pub address : ℕ
 
+abbrev pub validAnswer : ℕ → Answer
+validAnswer a = record { refusal = 0; address = a }
+
+-- "With any refusal the address .. and every other number returned beside its own are 0"
+abbrev pub refusedAnswer : ℕ → Answer
+refusedAnswer n = record { refusal = n; address = 0 }
+
+-- the document's number and values for each case of the answer
 abbrev pub answer : Made → Answer
-answer (valid a) = record { refusal = 0; address = a .number }
-answer (refused n) = record { refusal = n; address = 0 }
+answer (valid a) = validAnswer (a .number)
+answer (refused n) = refusedAnswer n
 
 -- refusal 9: "an address is zero"
 unfoldable pub made : ℕ → Answer
-made n = if eqb n 0 then record { refusal = 9; address = 0 } else record { refusal = 0; address = n }
+made n = if eqb n 0 then refusedAnswer 9 else validAnswer n

@@ -37,10 +37,14 @@ pub record Effect : Type 0 where
   pub answer : Written
   pub buffer : List ℕ
 
+-- done, with so many octets
+abbrev pub wrote : ℕ → Written
+wrote k = record { refusal = 0; count = k }
+
 -- "no byte or word lent is changed", and the number of octets written is 0
 unfoldable pub refuseWriting : ℕ → List ℕ → Effect
 refuseWriting n buffer = record { answer = record { refusal = n; count = 0 }; buffer = buffer }
 
 -- some octets in front, and behind them the buffer as it was: "On success only the words or octets named are written."
 unfoldable pub write : List ℕ → List ℕ → Effect
-write os buffer = record { answer = record { refusal = 0; count = length os }; buffer = os ++ drop (length os) buffer }
+write os buffer = record { answer = wrote (length os); buffer = os ++ drop (length os) buffer }

@@ -1,0 +1,24 @@
+-- What a reading answers, case by case, and which case an answer came from. Assumes nothing.
+use mathlib.Core.Path.{_≡_, refl, sym, ap, _∙_}
+use mathlib.Core.Bool.{Bool, true, false, not}
+use mathlib.Core.List.{List}
+use Prim.Native.Nat.{ℕ, _+_, _≤_, _<_}
+use native.Mathlib.Omega.{arith}
+use borrow.Author.Tests.{eq-eqb, ne-eqb, eqb-true}
+use lib.Dec.{eqb}
+use Rattle.address.specs.Choice.{if_then_else_}
+use Rattle.address.specs.Octets.{value}
+use Rattle.header.specs.Header.{Answer, reading, refused, found, startFault, addressFault, sizeTold, addressOctets, start}
+
+module _ (p : List ℕ) where
+  pub reading-start : {n : ℕ} → n ≡ startFault p → (n ≡ 0 → ⊥) → refused n ≡ reading p
+  unfolding reading
+  reading-start e h = rw (ne-eqb (startFault p) 0 (λ z. h (e ∙ z))) (ap refused e)
+
+  pub reading-address : {n : ℕ} → startFault p ≡ 0 → n ≡ addressFault (sizeTold p) p → (n ≡ 0 → ⊥) → refused n ≡ reading p
+  unfolding reading
+  reading-address s e h = rw (eq-eqb (startFault p) 0 s, ne-eqb (addressFault (sizeTold p) p) 0 (λ z. h (e ∙ z))) (ap refused e)
+
+  pub reading-found : startFault p ≡ 0 → addressFault (sizeTold p) p ≡ 0 → reading p ≡ found (value (addressOctets (sizeTold p) p)) (start + sizeTold p)
+  unfolding reading
+  reading-found s e = rw (eq-eqb (startFault p) 0 s, eq-eqb (addressFault (sizeTold p) p) 0 e)

@@ -1,0 +1,6 @@
+-- The laws of the header crate.
+pub mod Size
+pub mod Start
+pub mod Parts
+pub mod Cases
+pub mod Writing

@@ -1,0 +1,69 @@
+-- How many octets an address takes. A bound on a number by octets is one on its bit length (`lt-octets`, `octets-le`), and `size` rounds
+-- the bit length up to whole units, so the fewest that hold the number are those. Assumes nothing.
+use mathlib.Core.Path.{_≡_, refl, sym, ap, ap₂, _∙_, subst}
+use mathlib.Core.Bool.{true, _&&_, and-eq-true-iff}
+use Prim.Native.Nat.{ℕ, zero, suc, _+_, _*_, _-_, _/_, _%_, _^_, _≤_, _<_}
+use native.Mathlib.Nat.{pow-suc, mul-suc, lt-of-not-le, not-le-of-lt, lt-of-le-of-lt, lt-of-lt-of-le, le-trans}
+use native.Mathlib.Omega.{arith}
+use borrow.Author.Tests.{le-leb, leb-true, eq-eqb, eqb-true}
+use lib.Dec.{leb, eqb}
+use lib.Pow.{pow-add, pow-mono}
+use Rattle.address.specs.Bits.{longest}
+use Rattle.address.specs.Address.{bitLength}
+use Rattle.address.specs.Reading.{IsAddress}
+use Rattle.address.proofs.Numbers.{bitLength-le, bitLength-pos, lt-bitLength, ge-bitLength}
+use Rattle.header.specs.Header.{size, sizeAllowed, unit, most}
+use Rattle.header.specs.Fewest.{IsFewest, FewestPairs}
+
+octets-pow : (s : ℕ) → 256 ^ s ≡ 2 ^ (8 * s)
+octets-pow zero = refl
+octets-pow (suc s) = pow-suc 256 s ∙ ap (λ (p : ℕ). p * 256) (octets-pow s) ∙ sym (pow-add 2 (8 * s) 8) ∙ ap (λ (k : ℕ). 2 ^ k) (sym (mul-suc 8 s))
+
+exponent-lt : {i j : ℕ} → 2 ^ i < 2 ^ j → i < j
+exponent-lt h = lt-of-not-le (λ g. not-le-of-lt h (pow-mono g))
+
+-- a number that s octets hold has no more bits than those
+bitLength-le-octets : {a : ℕ} (s : ℕ) → IsAddress a → a < 256 ^ s → bitLength a ≤ 8 * s
+bitLength-le-octets {a} s n h =
+    let e = exponent-lt {i = bitLength a - 1} {j = 8 * s} (lt-of-le-of-lt (ge-bitLength n) (subst (λ (p : ℕ). a < p) (octets-pow s) h)) in omega arith
+
+-- and one that s octets do not hold has more
+octets-lt-bitLength : {a : ℕ} (s : ℕ) → IsAddress a → 256 ^ s ≤ a → 8 * s < bitLength a
+octets-lt-bitLength {a} s n h =
+    exponent-lt (lt-of-le-of-lt (subst (λ (p : ℕ). p ≤ a) (octets-pow s) h) (lt-bitLength (n .fits)))
+
+lt-octets : {a : ℕ} (s : ℕ) → IsAddress a → bitLength a ≤ 8 * s → a < 256 ^ s
+lt-octets {a} s n h = subst (λ (p : ℕ). a < p) (sym (octets-pow s)) (lt-of-lt-of-le (lt-bitLength (n .fits)) (pow-mono h))
+
+pub size-le : {a : ℕ} → a < 2 ^ longest → size a ≤ most
+unfolding size
+size-le h = omega (arith, bitLength-le h)
+
+pub size-ge : {a : ℕ} → IsAddress a → unit ≤ size a
+unfolding size
+size-ge n = omega (arith, bitLength-pos n)
+
+pub size-allowed : {a : ℕ} → a < 2 ^ longest → sizeAllowed (size a) ≡ true
+unfolding sizeAllowed size
+size-allowed {a} h = ap₂ _&&_ (le-leb (size a) most (size-le h)) (eq-eqb (size a % unit) 0 (omega arith))
+
+allowed-parts : {s : ℕ} → sizeAllowed s ≡ true → (s ≤ most) × (s % unit ≡ 0)
+unfolding sizeAllowed
+allowed-parts {s} h = let (short, even) = and-eq-true-iff (leb s most) (eqb (s % unit) 0) .0 h in (leb-true s most short, eqb-true (s % unit) 0 even)
+
+pub sizeAllowed-le : {s : ℕ} → sizeAllowed s ≡ true → s ≤ most
+sizeAllowed-le h = allowed-parts h .0
+
+pub fewest-pairs : FewestPairs
+unfolding size
+fewest-pairs a n = record {
+  allowed = size-allowed (n .fits);
+  holds = lt-octets (size a) n (omega arith);
+  fewest = λ s ok h. omega (arith, bitLength-le-octets s n h, allowed-parts ok);
+}
+
+-- the size of a number that s octets hold, and no fewer units of them
+pub size-exact : {a s : ℕ} → IsAddress a → sizeAllowed s ≡ true → a < 256 ^ s → unit ≤ s → 256 ^ (s - unit) ≤ a → size a ≡ s
+unfolding size
+size-exact {a} {s} n ok h some l =
+    omega (arith, bitLength-le-octets s n h, octets-lt-bitLength (s - unit) n l, allowed-parts ok)

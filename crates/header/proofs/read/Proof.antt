@@ -1,0 +1,106 @@
+-- `header::read` meets its contract: each return is one case of `reading`. Assumes nothing.
+use mathlib.Core.Path.{_≡_, sym, ap, _∙_}
+use mathlib.Core.List.{List}
+use Prim.Native.Nat.{ℕ, _+_, _%_, _^_}
+use native.Mathlib.Omega.{arith}
+use lib.ListN.{length}
+use Rattle.address.specs.Octets.{value, AreOctets}
+use Rattle.address.proofs.OctetLaws.{all-octets, value-mod}
+use Rattle.header.specs.Header.{answer, found, startFault, sizeTold, addressFault, addressOctets}
+use Rattle.header.proofs.Size.{sizeAllowed-le}
+use Rattle.header.proofs.Start.{startFault-length}
+use Rattle.header.proofs.Parts.{length-addressOctets, part-addressOctets, octets-addressOctets, addressFault-zero}
+use Rattle.header.proofs.Cases.{reading-start, reading-address, reading-found}
+use borrow.Author.Needs.{needs}
+use Rattle.header.proofs.read.Statement.{statement}
+use Rattle.header.proofs.read.Tie as tie
+use Rattle.header.proofs.read.Reads as reads
+use Rattle.header.proofs.read.Lts as lts
+use Rattle.address.proofs.Address.of.Reads as of-reads
+use Rattle.address.proofs.octets.get.Reads as get-reads
+use Rattle.header.proofs.address_fault.Reads as address-fault-reads
+use Rattle.header.proofs.start_fault.Reads as start-fault-reads
+
+start-right : (c : tie.Else1) → startFault (c .before .before .before .args .packet .now) ≡ 0
+start-right c = sym (c .before .start-fault .ensures) ∙ c .if1 .left
+
+-- the address octets have no fault
+address-right : (c : tie.Else2) → addressFault (sizeTold (c .before .before .before .before .before .before .args .packet .now)) (c .before .before .before .before .before .before .args .packet .now) ≡ 0
+unfolding sizeTold
+address-right c = sym (c .before .address-fault .ensures) ∙ c .if2 .left
+
+start-fault-requires : tie.Need-start-fault-requires
+start-fault-requires c κs = search needs
+
+returns : tie.Need-returns
+unfolding answer
+returns c = reading-start (c .before .before .before .args .packet .now) (c .before .start-fault .ensures) (c .if1 .taken)
+
+shared-slice-read-size : tie.Need-shared-slice-read-size
+shared-slice-read-size c = omega (arith, startFault-length (c .before .before .before .before .args .packet .now) (start-right (c .before)))
+
+cast-size : tie.Need-cast-size
+cast-size c = omega (arith, c .shared-slice-known2 .given 1)
+
+add-size : tie.Need-add-size
+add-size c = search needs
+
+address-fault-requires : tie.Need-address-fault-requires
+address-fault-requires c κs = search needs
+
+returns-2 : tie.Need-returns-2
+unfolding answer sizeTold
+returns-2 c = reading-address (c .before .before .before .before .before .before .args .packet .now) (start-right (c .before .before .before)) (c .before .address-fault .ensures) (c .if2 .taken)
+
+add-end : tie.Need-add-end
+add-end c = search needs
+
+sub-get : tie.Need-sub-get
+sub-get c = search needs
+
+part-get-start : tie.Need-part-get-start
+part-get-start c = search needs
+
+part-get-end : tie.Need-part-get-end
+unfolding sizeTold
+part-get-end c = let p = c .before .before .before .before .before .before .args .packet .now in addressFault-zero (sizeTold p) p (address-right c) .1
+
+get-requires : tie.Need-get-requires
+get-requires c κs = search needs
+
+of-requires : tie.Need-of-requires
+of-requires c κs = search needs
+
+returns-3 : tie.Need-returns-3
+unfolding answer sizeTold
+returns-3 c =
+    let at = c .before .before .before in
+    let p = at .before .before .before .before .before .before .args .packet .now in
+    let right = addressFault-zero (sizeTold p) p (address-right at) in
+    let number : c .of .result .number ≡ value (addressOctets (sizeTold p) p) =
+        c .of .ensures
+        ∙ c .before .get .ensures
+        ∙ ap (λ (os : List ℕ). value os % 2 ^ 64) (part-addressOctets (sizeTold p) p)
+        ∙ value-mod (addressOctets (sizeTold p) p)
+        (octets-addressOctets (sizeTold p) p (all-octets p (λ i. omega (arith, at .before .before .shared-slice-known2 .given i))))
+        (omega (arith, length-addressOctets (sizeTold p) p (right .1), sizeAllowed-le (right .0))) in
+    ap (λ (a : ℕ). found a (3 + sizeTold p)) number ∙ sym (reading-found p (start-right (at .before .before .before)) (address-right at))
+
+pub read-spec : {M : Type 1} → statement M
+read-spec =
+    tie.close
+    (tie.spec
+    start-fault-requires
+    returns
+    shared-slice-read-size
+    cast-size
+    add-size
+    address-fault-requires
+    returns-2
+    add-end
+    sub-get
+    part-get-start
+    part-get-end
+    get-requires
+    of-requires
+    returns-3)

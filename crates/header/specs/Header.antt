@@ -1,0 +1,131 @@
+-- The packet header. "Packet: octet 0xF1 (page 1, RFC 8025); octet 100sssss, where sssss is the number of address octets less one (house
+-- choice); octet 15 as the type (house choice until a number is assigned); the address, most significant octet first; the payload, which
+-- may be empty."
+use Prim.Native.Nat.{ℕ, _+_, _*_, _-_, _/_, _%_}
+use mathlib.Core.Bool.{Bool, true, false, not, _&&_}
+use mathlib.Core.List.{List, [], _∷_, _++_}
+use lib.ListN.{length, take, drop, getD}
+use lib.Dec.{eqb, ltb, leb}
+use Rattle.address.specs.Choice.{if_then_else_}
+use Rattle.address.specs.Address.{bitLength}
+use Rattle.address.specs.Octets.{octets, value, Effect, refuseWriting, write}
+pub use Rattle.header.specs.declared.Reading.{Reading}
+pub use Rattle.header.specs.declared.Reading.the-variants.{Found as foundCase, Refused as refusedCase}
+
+-- ---- how many octets an address takes
+
+-- an address takes so many octets at a time: pairs
+abbrev pub unit : ℕ
+unit = 2
+
+-- the most octets that an address takes
+abbrev pub most : ℕ
+most = 8
+
+-- "The address takes the fewest pairs of octets that hold it": the bit length, rounded up to whole pairs. specs/Fewest.antt says that
+-- these are the fewest.
+unfoldable pub size : ℕ → ℕ
+size a = (bitLength a + (8 * unit - 1)) / (8 * unit) * unit
+
+-- "2, 4, 6 or 8 octets", of a size that is at least 1
+unfoldable pub sizeAllowed : ℕ → Bool
+sizeAllowed s = leb s most && eqb (s % unit) 0
+
+-- ---- writing
+
+-- page 1
+abbrev pub page : ℕ
+page = 0xF1
+
+-- the top three bits of the second octet, 100
+abbrev pub critical : ℕ
+critical = 4
+
+abbrev pub type : ℕ
+type = 15
+
+-- the octets before the address
+abbrev pub start : ℕ
+start = 3
+
+-- where the address's octets end and the payload begins
+unfoldable pub place : ℕ → ℕ
+place a = start + size a
+
+unfoldable pub header : ℕ → List ℕ
+header a = page ∷ (critical * 32 + (size a - 1)) ∷ type ∷ octets (size a) a
+
+-- "For writing a header 9, 10.": the address is zero; the lent output is too short
+unfoldable pub writing : ℕ → List ℕ → Effect
+writing a buffer =
+    if eqb a 0 then refuseWriting 9 buffer
+    else if ltb (length buffer) (place a) then refuseWriting 10 buffer
+    else write (header a) buffer
+
+-- ---- reading
+
+-- what a reading says: its number, the address and the place where the payload begins
+pub record Answer : Type 0 where
+  pub refusal : ℕ
+  pub address : ℕ
+  pub place : ℕ
+
+abbrev pub found : ℕ → ℕ → Answer
+found a k = record { refusal = 0; address = a; place = k }
+
+-- "With any refusal the address, place, hop count and every other number returned beside its own are 0"
+abbrev pub refused : ℕ → Answer
+refused n = record { refusal = n; address = 0; place = 0 }
+
+-- the document's number and values for each case of the answer
+unfoldable pub answer : Reading → Answer
+answer (foundCase a k) = found (a .number) k
+answer (refusedCase n) = refused n
+
+-- "the first three octets are checked in order; one that is absent is 4, one that is wrong is 5": 0 where none is
+unfoldable pub inOrder : List (ℕ → Bool) → List ℕ → ℕ
+inOrder [] p = 0
+inOrder (right ∷ rest) [] = 4
+inOrder (right ∷ rest) (o ∷ p) = if right o then inOrder rest p else 5
+
+abbrev pub isPage : ℕ → Bool
+isPage o = eqb o page
+
+-- "(of the second only its top three bits)"
+abbrev pub isCritical : ℕ → Bool
+isCritical o = eqb (o / 32) critical
+
+abbrev pub isType : ℕ → Bool
+isType o = eqb o type
+
+unfoldable pub startFault : List ℕ → ℕ
+startFault p = inOrder (isPage ∷ isCritical ∷ isType ∷ []) p
+
+-- the number of address octets that the second octet tells
+unfoldable pub sizeTold : List ℕ → ℕ
+sizeTold p = getD p 1 0 % 32 + 1
+
+-- the address octets of a packet that has s of them
+unfoldable pub addressOctets : ℕ → List ℕ → List ℕ
+addressOctets s p = take s (drop start p)
+
+-- "with 2 octets, address zero is 9; with more, a first pair of zeros is 6": 0 where neither is
+unfoldable pub zeroFault : ℕ → List ℕ → ℕ
+zeroFault s os =
+    if eqb s unit then if eqb (value os) 0 then 9 else 0
+    else if eqb (value (take unit os)) 0 then 6
+    else 0
+
+-- "Then a size other than 2, 4, 6 or 8 octets is 6. Then a missing address octet is 4. Then .." `zeroFault`
+unfoldable pub addressFault : ℕ → List ℕ → ℕ
+addressFault s p =
+    if not (sizeAllowed s) then 6
+    else if ltb (length p) (start + s) then 4
+    else zeroFault s (addressOctets s p)
+
+-- "The answer is the address and the place where the payload begins."
+unfoldable pub reading : List ℕ → Answer
+reading p =
+    if not (eqb (startFault p) 0) then refused (startFault p)
+    else if not (eqb (addressFault (sizeTold p) p) 0) then refused (addressFault (sizeTold p) p)
+    else found (value (addressOctets (sizeTold p) p)) (start + sizeTold p)

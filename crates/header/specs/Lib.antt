@@ -1,0 +1,4 @@
+-- What the header crate promises, in definitions and statements alone.
+pub mod Header
+pub mod Fewest
+pub mod RoundTrip

@@ -1,0 +1,25 @@
+-- Demand 2 for the header: "Every address we write as a header .. reads back as itself, and every header .. we accept is the one we would
+-- have written." It is a statement of any writer and any reader, at what they do to buffers, so that a wrong one can be refuted by it.
+use mathlib.Core.Path.{_≡_}
+use mathlib.Core.List.{List}
+use Prim.Native.Nat.{ℕ, _≤_}
+use lib.ListN.{length, take}
+use Rattle.address.specs.Reading.{IsAddress}
+use Rattle.address.specs.Octets.{Effect, AreOctets, wrote}
+use Rattle.header.specs.Header.{Answer, found, place}
+
+-- the address, and the lent buffer as it comes
+abbrev pub Writer : Type 0
+Writer = ℕ → List ℕ → Effect
+
+abbrev pub Reader : Type 0
+Reader = List ℕ → Answer
+
+pub record RoundTrip (writer : Writer) (reader : Reader) : Type 0 where
+  -- in every buffer that has room the address is written, and the buffer reads as the address; what stood behind is the payload
+  pub readsBack : (a : ℕ) (buffer : List ℕ) → IsAddress a → place a ≤ length buffer
+      → (writer a buffer .answer ≡ wrote (place a)) × (reader (writer a buffer .buffer) ≡ found a (place a))
+  -- whatever octets read as an address are, up to the place, those that we write into any buffer that holds them
+  pub writtenSo : (p : List ℕ) (a k : ℕ) → AreOctets p → reader p ≡ found a k
+      → IsAddress a × (k ≤ length p)
+      × ((buffer : List ℕ) → k ≤ length buffer → (writer a buffer .answer ≡ wrote k) × (take k (writer a buffer .buffer) ≡ take k p))

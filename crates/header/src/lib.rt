@@ -1,0 +1,149 @@
+// The packet header: what the octets are, in which order they are checked and what each fault is numbered, stands in specs/Header.antt.
+use address::Address;
+use address::octets::Written;
+ghost use mathlib.Core.Path.{_≡_};
+ghost use Prim.Native.Nat.{_≤_};
+ghost use lib.ListN.{length};
+ghost use Rattle.header.specs.Header.{size, unit, most, writing, answer, reading, startFault, zeroFault, addressFault};
+
+// Refusals: "the packet ends too early", "one of the first three octets is wrong", "size not allowed, or more pairs than needed",
+// "lent output too short".
+pub const ENDS_EARLY: u8 = 4;
+
+pub const WRONG_START: u8 = 5;
+
+pub const WRONG_SIZE: u8 = 6;
+
+pub const NO_ROOM: u8 = 10;
+
+const PAGE: u8 = 0xF1;
+
+const CRITICAL: u8 = 4;
+
+const TYPE: u8 = 15;
+
+const START: usize = 3;
+// An address takes so many octets at a time, and at most so many.
+const UNIT: usize = 2;
+
+const MOST: usize = 8;
+
+// What reading a header answers: the address and the place where the payload begins, or a refusal.
+pub enum Reading {
+    Found(Address, usize),
+    Refused(u8),
+}
+
+// How many octets the address takes.
+fn size_of(address: Address) -> usize
+    ensures { λ r. ⌜ r ≡ size (address .number) ⌝ }
+{
+    (address.bit_length() as usize + (8 * UNIT - 1)) / (8 * UNIT) * UNIT
+}
+
+// Writes the address's header to the front of the lent buffer.
+pub fn write(address: Address, out: &mut [u8]) -> Written
+    ensures { λ r. ⌜ (r ≡ writing (address .number) (now (out .entry)) .answer) × (now (out .exit) ≡ writing (address .number) (now (out .entry)) .buffer) ⌝ }
+{
+    if address.number == 0 {
+        return Written {
+            refusal: address::ZERO_ADDRESS,
+            count: 0,
+        };
+    }
+    let size = size_of(address);
+    let end = START + size;
+    if out.len() < end {
+        return Written {
+            refusal: NO_ROOM,
+            count: 0,
+        };
+    }
+    out[0] = PAGE;
+    out[1] = CRITICAL * 32 + (size - 1) as u8;
+    out[2] = TYPE;
+    address::octets::put(address.number, &mut out[START..end]);
+    Written {
+        refusal: 0,
+        count: end,
+    }
+}
+
+// The fault of the first three octets, 0 where there is none.
+fn start_fault(packet: &[u8]) -> u8
+    ensures { λ r. ⌜ r ≡ startFault (now (packet .entry)) ⌝ }
+{
+    if packet.len() <= 0 {
+        return ENDS_EARLY;
+    }
+    if packet[0] != PAGE {
+        return WRONG_START;
+    }
+    if packet.len() <= 1 {
+        return ENDS_EARLY;
+    }
+    if packet[1] / 32 != CRITICAL {
+        return WRONG_START;
+    }
+    if packet.len() <= 2 {
+        return ENDS_EARLY;
+    }
+    if packet[2] != TYPE {
+        return WRONG_START;
+    }
+    0
+}
+
+// The fault of an address's octets, 0 where there is none: zero, or octets that a shorter form does without.
+fn zero_fault(octets: &[u8]) -> u8
+    requires { ⌜ unit ≤ length (now octets) ⌝ }
+    requires { ⌜ length (now octets) ≤ most ⌝ }
+    ensures { λ r. ⌜ r ≡ zeroFault (length (now (octets .entry))) (now (octets .entry)) ⌝ }
+{
+    if octets.len() == UNIT {
+        if address::octets::get(octets) == 0 {
+            return address::ZERO_ADDRESS;
+        }
+        return 0;
+    }
+    if address::octets::get(&octets[..UNIT]) == 0 {
+        return WRONG_SIZE;
+    }
+    0
+}
+
+// The fault of what follows the first three octets, where the second tells this size; 0 where there is none.
+fn address_fault(packet: &[u8], size: usize) -> u8
+    requires { ⌜ 1 ≤ size ⌝ }
+    ensures { λ r. ⌜ r ≡ addressFault size (now (packet .entry)) ⌝ }
+{
+    if MOST < size {
+        return WRONG_SIZE;
+    }
+    if size % UNIT != 0 {
+        return WRONG_SIZE;
+    }
+    let end = START + size;
+    if packet.len() < end {
+        return ENDS_EARLY;
+    }
+    zero_fault(&packet[START..end])
+}
+
+// Reads the header at the front of a packet.
+pub fn read(packet: &[u8]) -> Reading
+    ensures { λ r. ⌜ answer r ≡ reading (now (packet .entry)) ⌝ }
+{
+    let wrong_start = start_fault(packet);
+    if wrong_start != 0 {
+        return Reading::Refused(wrong_start);
+    }
+    let size = packet[1] as usize % 32 + 1;
+    let wrong_address = address_fault(packet, size);
+    if wrong_address != 0 {
+        return Reading::Refused(wrong_address);
+    }
+    let end = START + size;
+    let number = address::octets::get(&packet[START..end]);
+    Reading::Found(Address::of(number), end)
+}

@@ -1,0 +1,3 @@
+-- What the ipv6 crate promises, in definitions and statements alone.
+pub mod Form
+pub mod RoundTrip
