@@ -1,12 +1,12 @@
 -- The laws of numbers as octets: k octets of n give n's remainder by 256 ^ k, and the octets of what some octets give are those octets.
 -- Each is one induction over the octets, from the front for `joined` and from the end for `octets`. Assumes nothing.
 use mathlib.Core.Path.{_≡_, refl, sym, ap, ap₂, _∙_, subst}
-use Prim.Native.Nat.{ℕ, zero, suc, _+_, _*_, _/_, _%_, _^_, _≤_, _<_}
-use native.Mathlib.Nat.{add-zero, add-suc, suc-add, zero-add, mod-one, mod-lt, mod-eq-of-lt, pow-suc, pow-succ', mul-assoc, one-mul, pow-le-pow-right, lt-of-lt-of-le}
+use Prim.Native.Nat.{ℕ, zero, suc, _+_, _-_, _*_, _/_, _%_, _^_, _≤_, _<_}
+use native.Mathlib.Nat.{add-zero, add-suc, suc-add, zero-add, mod-one, mod-lt, mod-eq-of-lt, pow-suc, pow-succ', mul-assoc, one-mul, pow-le-pow-right, lt-of-lt-of-le, zero-mul, add-mul, add-assoc, mul-le-mul-right, pos-of-ne-zero}
 use native.Mathlib.Numerals.{add-one}
 use native.Mathlib.Omega.{arith}
 use mathlib.Core.List.{List, [], _∷_, _++_, append-nil, append-assoc}
-use lib.ListN.{length, take, drop, getD, length-append}
+use lib.ListN.{length, take, drop, getD, length-append, length-drop, take-append-drop}
 use lib.Arith.{mod-mul, digits-lt, digits-div, digits-mod}
 use lib.Dec.{lit<}
 use Rattle.address.specs.Octets.{octets, joined, value, AreOctets}
@@ -81,9 +81,53 @@ drop-octets zero os all = all
 drop-octets (suc k) [] all = tt
 drop-octets (suc k) (o ∷ os) all = drop-octets k os (all .1)
 
+pub append-octets : (xs ys : List ℕ) → AreOctets xs → AreOctets ys → AreOctets (xs ++ ys)
+append-octets [] ys all more = more
+append-octets (x ∷ xs) ys all more = (all .0, append-octets xs ys (all .1) more)
+
+pub octets-octets : (k n : ℕ) → AreOctets (octets k n)
+unfolding octets
+octets-octets zero n = tt
+octets-octets (suc k) n = append-octets (octets k (n / 256)) (n % 256 ∷ []) (octets-octets k (n / 256)) (omega arith, tt)
+
 -- at most eight octets give a number of 64 bits
 pub value-fits : (os : List ℕ) → AreOctets os → length os ≤ 8 → value os < 2 ^ 64
 value-fits os all h = lt-of-lt-of-le (value-lt os all) (pow-le-pow-right (lit< tt) h)
 
 pub value-mod : (os : List ℕ) → AreOctets os → length os ≤ 8 → value os % 2 ^ 64 ≡ value os
 value-mod os all h = mod-eq-of-lt (value-fits os all h)
+
+-- ---- the octets in front, and those behind them
+
+joined-value : (n : ℕ) (os : List ℕ) → joined n os ≡ n * 256 ^ length os + value os
+unfolding joined value
+joined-value n [] = omega arith
+joined-value n (o ∷ os) =
+    let p = 256 ^ length os in
+    let up : n * 256 * p ≡ n * 256 ^ suc (length os) = mul-assoc n 256 p ∙ ap (λ (q : ℕ). n * q) (sym (pow-succ' 256 (length os))) in
+    let alone : 0 * 256 + o ≡ o = omega arith in
+    joined-value (n * 256 + o) os
+    ∙ rw (add-mul (n * 256) o p, up, add-assoc)
+    (ap (λ (v : ℕ). n * 256 ^ suc (length os) + v) (sym (ap (λ (m : ℕ). joined m os) alone ∙ joined-value o os)))
+
+pub value-append : (xs ys : List ℕ) → value (xs ++ ys) ≡ value xs * 256 ^ length ys + value ys
+unfolding value
+value-append xs ys = joined-append 0 xs ys ∙ joined-value (joined 0 xs) ys
+
+-- the first k of some octets are zeros exactly if the others hold the whole number
+module _ (k : ℕ) (os : List ℕ) (all : AreOctets os) where
+  behind : 256 ^ length (drop k os) ≡ 256 ^ (length os - k)
+  behind = ap (λ (n : ℕ). 256 ^ n) (length-drop k os)
+
+  parts : value os ≡ value (take k os) * 256 ^ length (drop k os) + value (drop k os)
+  parts = ap value (sym (take-append-drop k os)) ∙ value-append (take k os) (drop k os)
+
+  pub value-lt-of-zeros : value (take k os) ≡ 0 → value os < 256 ^ (length os - k)
+  value-lt-of-zeros e =
+      let whole : value os ≡ value (drop k os) =
+          parts ∙ ap (λ (v : ℕ). v * 256 ^ length (drop k os) + value (drop k os)) e ∙ omega (arith, zero-mul (256 ^ length (drop k os))) in
+      omega (arith, value-lt (drop k os) (drop-octets k os all), behind)
+
+  pub value-ge-of-zeros : (value (take k os) ≡ 0 → ⊥) → 256 ^ (length os - k) ≤ value os
+  value-ge-of-zeros h =
+      omega (arith, parts, behind, mul-le-mul-right {m = 1} {n = value (take k os)} (256 ^ length (drop k os)) (pos-of-ne-zero h))

@@ -2,7 +2,7 @@
 use mathlib.Core.Path.{_≡_, refl, sym, ap, _∙_}
 use mathlib.Core.Bool.{Bool, true, false, not}
 use mathlib.Core.List.{List}
-use Prim.Native.Nat.{ℕ, _+_, _≤_, _<_}
+use Prim.Native.Nat.{ℕ, zero, suc, _+_}
 use native.Mathlib.Omega.{arith}
 use borrow.Author.Tests.{eq-eqb, ne-eqb, eqb-true}
 use lib.Dec.{eqb}
@@ -22,3 +22,16 @@ module _ (p : List ℕ) where
   pub reading-found : startFault p ≡ 0 → addressFault (sizeTold p) p ≡ 0 → reading p ≡ found (value (addressOctets (sizeTold p) p)) (start + sizeTold p)
   unfolding reading
   reading-found s e = rw (eq-eqb (startFault p) 0 s, eq-eqb (addressFault (sizeTold p) p) 0 e)
+
+-- an address was found: no check had found a fault, and it is the one read
+pub reading-inverse : (p : List ℕ) (a k : ℕ) → reading p ≡ found a k
+    → (startFault p ≡ 0) × (addressFault (sizeTold p) p ≡ 0) × (value (addressOctets (sizeTold p) p) ≡ a) × (start + sizeTold p ≡ k)
+reading-inverse p a k e = go (startFault p) refl (addressFault (sizeTold p) p) refl
+  where
+    numbers : {x y : Answer} → x ≡ y → (x .refusal ≡ y .refusal) × (x .address ≡ y .address) × (x .place ≡ y .place)
+    numbers q = (ap (λ (x : Answer). x .refusal) q, ap (λ (x : Answer). x .address) q, ap (λ (x : Answer). x .place) q)
+    go : (m : ℕ) → startFault p ≡ m → (n : ℕ) → addressFault (sizeTold p) p ≡ n
+        → (startFault p ≡ 0) × (addressFault (sizeTold p) p ≡ 0) × (value (addressOctets (sizeTold p) p) ≡ a) × (start + sizeTold p ≡ k)
+    go zero s zero f = let same = numbers (sym (reading-found p s f) ∙ e) in (s, f, same .1, same .2)
+    go zero s (suc n) f = absurd (omega (arith, numbers (reading-address p s (sym f) (λ z. omega arith) ∙ e) .0))
+    go (suc m) s n f = absurd (omega (arith, numbers (reading-start p (sym s) (λ z. omega arith) ∙ e) .0))

@@ -4,3 +4,4 @@ pub mod Start
 pub mod Parts
 pub mod Cases
 pub mod Writing
+pub mod Demand2

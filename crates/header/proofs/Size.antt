@@ -35,6 +35,9 @@ octets-lt-bitLength {a} s n h =
 lt-octets : {a : ℕ} (s : ℕ) → IsAddress a → bitLength a ≤ 8 * s → a < 256 ^ s
 lt-octets {a} s n h = subst (λ (p : ℕ). a < p) (sym (octets-pow s)) (lt-of-lt-of-le (lt-bitLength (n .fits)) (pow-mono h))
 
+octets-le : {a : ℕ} (s : ℕ) → IsAddress a → 8 * s < bitLength a → 256 ^ s ≤ a
+octets-le {a} s n h = subst (λ (p : ℕ). p ≤ a) (sym (octets-pow s)) (le-trans (pow-mono (omega arith)) (ge-bitLength n))
+
 pub size-le : {a : ℕ} → a < 2 ^ longest → size a ≤ most
 unfolding size
 size-le h = omega (arith, bitLength-le h)
@@ -54,6 +57,9 @@ allowed-parts {s} h = let (short, even) = and-eq-true-iff (leb s most) (eqb (s %
 pub sizeAllowed-le : {s : ℕ} → sizeAllowed s ≡ true → s ≤ most
 sizeAllowed-le h = allowed-parts h .0
 
+pub sizeAllowed-ge : {s : ℕ} → sizeAllowed s ≡ true → 0 < s → unit ≤ s
+sizeAllowed-ge h some = omega (arith, allowed-parts h)
+
 pub fewest-pairs : FewestPairs
 unfolding size
 fewest-pairs a n = record {
@@ -67,3 +73,8 @@ pub size-exact : {a s : ℕ} → IsAddress a → sizeAllowed s ≡ true → a < 
 unfolding size
 size-exact {a} {s} n ok h some l =
     omega (arith, bitLength-le-octets s n h, octets-lt-bitLength (s - unit) n l, allowed-parts ok)
+
+-- and no fewer units hold a number than its size says
+pub size-least : {a : ℕ} → IsAddress a → 256 ^ (size a - unit) ≤ a
+unfolding size
+size-least {a} n = octets-le (size a - unit) n (omega (arith, bitLength-pos n))

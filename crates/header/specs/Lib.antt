@@ -2,3 +2,4 @@
 pub mod Header
 pub mod Fewest
 pub mod RoundTrip
+pub mod WrongWriters

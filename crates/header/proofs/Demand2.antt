@@ -1,0 +1,197 @@
+-- Demand 2 for the header. A header reads as its address, since its size is allowed, its octets give the number and the fewest octets leave
+-- no zeros in front (`reading-header`); and octets that are read were checked octet by octet for what a header has (`header-read`). Assumes
+-- nothing.
+use mathlib.Core.Path.{_≡_, refl, sym, ap, ap₂, _∙_, subst}
+use mathlib.Core.Bool.{true, false}
+use mathlib.Core.List.{List, [], _∷_, _++_}
+use mathlib.Core.Logic.{_⊎_, inl, inr}
+use Prim.Native.Nat.{ℕ, zero, suc, _+_, _-_, _*_, _/_, _%_, _^_, _≤_, _<_}
+use native.Mathlib.Nat.{lt-of-lt-of-le, one-le-pow, pos-of-ne-zero}
+use native.Mathlib.Decide.{ℕ-discrete}
+use native.Mathlib.Omega.{arith}
+use borrow.Author.Tests.{eq-eqb, ne-eqb, le-ltb, eqb-true, eqb-false}
+use lib.Dec.{lit<, lit≤, eqb}
+use lib.ListN.{length, take, drop, getD, length-append}
+use lib.Seq.{take-at, take-add}
+use Rattle.address.specs.Choice.{if_then_else_}
+use Rattle.address.specs.declared.octets.Written.{Written}
+use Rattle.address.specs.Bits.{bits, bitsIn}
+use Rattle.address.specs.Address.{bitLength}
+use Rattle.address.specs.Reading.{IsAddress}
+use Rattle.address.specs.Octets.{octets, value, AreOctets, Effect, write, wrote, refuseWriting}
+use Rattle.address.proofs.ChoiceLaws.{if-zero}
+use Rattle.address.proofs.OctetLaws.{length-octets, value-octets-of-lt, octets-octets, octets-value, value-lt, value-fits, value-lt-of-zeros, value-ge-of-zeros}
+use Rattle.header.specs.Header.{header, place, size, unit, most, start, page, critical, type, sizeAllowed, writing, reading, found, refused, Answer, startFault, inOrder, isCritical, sizeTold, addressFault, zeroFault, addressOctets}
+use Rattle.header.specs.RoundTrip.{RoundTrip}
+use Rattle.header.specs.WrongWriters.{silentWriter, refusingWriter}
+use Rattle.header.proofs.Size.{size-le, size-ge, size-allowed, size-exact, size-least, sizeAllowed-le, sizeAllowed-ge, fewest-pairs}
+use Rattle.header.proofs.Start.{startFault-zero}
+use Rattle.header.proofs.Parts.{length-addressOctets, octets-addressOctets, addressFault-zero}
+use Rattle.header.proofs.Cases.{reading-found, reading-inverse}
+use Rattle.header.proofs.Writing.{length-header, writing-done}
+
+-- ---- what is written reads back
+
+-- s octets of which the first unit is not zero have no fault, and the other way round
+zeroFault-none : (s : ℕ) (os : List ℕ) → length os ≡ s → unit ≤ s → AreOctets os → 256 ^ (s - unit) ≤ value os → zeroFault s os ≡ 0
+unfolding zeroFault
+zeroFault-none s os e h all l = go (ℕ-discrete s unit)
+  where
+    go : Dec (s ≡ unit) → zeroFault s os ≡ 0
+    go (yes q) =
+        let some : value os ≡ 0 → ⊥ = λ z. omega (arith, ap (λ (k : ℕ). 256 ^ (k - unit)) q) in simp (eq-eqb s unit q, ne-eqb (value os) 0 some)
+    go (no q) =
+        let some : value (take unit os) ≡ 0 → ⊥ = λ z. omega (arith, value-lt-of-zeros unit os all z, ap (λ (k : ℕ). 256 ^ (k - unit)) e) in
+        simp (ne-eqb s unit q, ne-eqb (value (take unit os)) 0 some)
+
+zeroFault-zero : (s : ℕ) (os : List ℕ) → length os ≡ s → unit ≤ s → AreOctets os → zeroFault s os ≡ 0 → 256 ^ (s - unit) ≤ value os
+unfolding zeroFault
+zeroFault-zero s os e h all z = go (ℕ-discrete s unit)
+  where
+    go : Dec (s ≡ unit) → 256 ^ (s - unit) ≤ value os
+    go (yes q) =
+        let t = if-zero (eqb (value os) 0) 8 0 (simp (eq-eqb s unit q) at z) in
+        omega (arith, ap (λ (k : ℕ). 256 ^ (k - unit)) q, pos-of-ne-zero (eqb-false (value os) 0 (t .0)))
+    go (no q) =
+        let t = if-zero (eqb (value (take unit os)) 0) 5 0 (simp (ne-eqb s unit q) at z) in
+        omega (arith, value-ge-of-zeros unit os all (eqb-false (value (take unit os)) 0 (t .0)), ap (λ (k : ℕ). 256 ^ (k - unit)) e)
+
+module _ {a : ℕ} (n : IsAddress a) (rest : List ℕ) where
+  second : (o : ℕ) → o ≡ critical * 32 + (size a - 1) → (o / 32 ≡ critical) × (o % 32 + 1 ≡ size a)
+  second o e = omega (arith, size-ge n, size-le (n .fits))
+
+  header-start : startFault (header a ++ rest) ≡ 0
+  unfolding startFault inOrder header
+  header-start = simp (eq-eqb ((critical * 32 + (size a - 1)) / 32) critical (second (critical * 32 + (size a - 1)) refl .0))
+
+  header-size : sizeTold (header a ++ rest) ≡ size a
+  unfolding sizeTold header
+  header-size = second (critical * 32 + (size a - 1)) refl .1
+
+  header-octets : addressOctets (size a) (header a ++ rest) ≡ octets (size a) a
+  unfolding addressOctets header
+  header-octets = take-at (octets (size a) a) rest (size a) (length-octets (size a) a)
+
+  header-fault : addressFault (size a) (header a ++ rest) ≡ 0
+  unfolding addressFault place
+  header-fault =
+      let long : start + size a ≤ length (header a ++ rest) = omega (arith, length-append (header a) rest, length-header a) in
+      let os = octets (size a) a in
+      let number : value os ≡ a = value-octets-of-lt (size a) a (fewest-pairs a n .holds) in
+      simp (size-allowed (n .fits), le-ltb (length (header a ++ rest)) (start + size a) long, header-octets)
+      (zeroFault-none (size a) os (length-octets (size a) a) (size-ge n) (octets-octets (size a) a) (omega (arith, size-least n, number)))
+
+  pub reading-header : reading (header a ++ rest) ≡ found a (place a)
+  unfolding place
+  reading-header =
+      let p = header a ++ rest in
+      reading-found p header-start (ap (λ (s : ℕ). addressFault s p) header-size ∙ header-fault)
+      ∙ ap (λ (s : ℕ). found (value (addressOctets s p)) (start + s)) header-size
+      ∙ ap (λ (os : List ℕ). found (value os) (start + size a)) header-octets
+      ∙ ap (λ (v : ℕ). found v (start + size a)) (value-octets-of-lt (size a) a (fewest-pairs a n .holds))
+
+-- ---- what is read is what would have been written
+
+module _ (p : List ℕ) (all : AreOctets p) (begun : startFault p ≡ 0) (whole : addressFault (sizeTold p) p ≡ 0) where
+  s : ℕ
+  s = sizeTold p
+
+  os : List ℕ
+  unfolding s
+  os = addressOctets s p
+
+  right : (sizeAllowed s ≡ true) × (start + s ≤ length p) × (zeroFault s os ≡ 0)
+  unfolding s os
+  right = addressFault-zero s p whole
+
+  many : length os ≡ s
+  unfolding s os
+  many = length-addressOctets s p (right .1)
+
+  some : unit ≤ s
+  unfolding s sizeTold
+  some = sizeAllowed-ge (right .0) (omega arith)
+
+  are : AreOctets os
+  unfolding os s
+  are = octets-addressOctets s p all
+
+  least : 256 ^ (s - unit) ≤ value os
+  least = zeroFault-zero s os many some are (right .2)
+
+  address-read : IsAddress (value os)
+  address-read = record {
+    some = lt-of-lt-of-le (one-le-pow (s - unit) 256 (lit< tt)) least;
+    fits = value-fits os are (omega (arith, many, sizeAllowed-le (right .0)));
+  }
+
+  size-read : size (value os) ≡ s
+  size-read = size-exact address-read (right .0) (omega (arith, value-lt os are, ap (λ (k : ℕ). 256 ^ k) many)) some least
+
+  take-read : take (start + s) p ≡ header (value os)
+  unfolding header os s addressOctets
+  take-read =
+      let (o, rest, q, top) = startFault-zero p begun in
+      let told : s ≡ o % 32 + 1 = unfold sizeTold in ap (λ (l : List ℕ). getD l 1 0 % 32 + 1) q in
+      let second : o ≡ critical * 32 + (s - 1) = omega arith in
+      take-add start s p
+      ∙ ap (λ (l : List ℕ). take start l ++ os) q
+      ∙ ap₂ (λ (x : ℕ) (l : List ℕ). page ∷ x ∷ type ∷ l) second (sym (octets-value os are) ∙ ap (λ (k : ℕ). octets k (value os)) many)
+      ∙ ap (λ (k : ℕ). page ∷ (critical * 32 + (k - 1)) ∷ type ∷ octets k (value os)) (sym size-read)
+
+  as-read : (a k : ℕ) → value os ≡ a → start + s ≡ k → IsAddress a × (k ≤ length p) × (k ≡ place a) × (take k p ≡ header a)
+  unfolding place
+  as-read a k e f = (
+    subst IsAddress e address-read,
+    subst (λ (n : ℕ). n ≤ length p) f (right .1),
+    sym f ∙ ap (λ (n : ℕ). start + n) (sym size-read ∙ ap size e),
+    ap (λ (n : ℕ). take n p) (sym f) ∙ take-read ∙ ap header e,
+  )
+
+pub header-read : (p : List ℕ) (a k : ℕ) → AreOctets p → reading p ≡ found a k → IsAddress a × (k ≤ length p) × (k ≡ place a) × (take k p ≡ header a)
+unfolding os s
+header-read p a k all e = let (begun, whole, number, end) = reading-inverse p a k e in as-read p all begun whole a k number end
+
+-- ---- demand 2
+
+not-zero : {a : ℕ} → IsAddress a → a ≡ 0 → ⊥
+not-zero n e = omega (arith, n .some)
+
+-- what is written where there is room
+wrote-header : (a : ℕ) (buffer : List ℕ) → IsAddress a → place a ≤ length buffer
+    → (writing a buffer .answer ≡ wrote (place a)) × (writing a buffer .buffer ≡ header a ++ drop (place a) buffer)
+unfolding write
+wrote-header a buffer n h =
+    let done = writing-done a buffer (not-zero n) h in (
+      ap (λ (w : Effect). w .answer) done ∙ ap wrote (length-header a),
+      ap (λ (w : Effect). w .buffer) done ∙ ap (λ (k : ℕ). header a ++ drop k buffer) (length-header a),
+    )
+
+pub round-trip : RoundTrip writing reading
+round-trip = record {
+  readsBack = λ a buffer n h.
+      let (answered, left) = wrote-header a buffer n h in (answered, ap reading left ∙ reading-header n (drop (place a) buffer));
+  writtenSo = λ p a k all e.
+      let (n, short, end, same) = header-read p a k all e in
+      (n, short, λ buffer h.
+      let (answered, left) = wrote-header a buffer n (subst (λ (m : ℕ). m ≤ length buffer) end h) in (
+        answered ∙ ap wrote (sym end),
+        ap (take k) left ∙ take-at (header a) (drop (place a) buffer) k (length-header a ∙ sym end) ∙ sym same,
+      ));
+}
+
+-- ---- wrong writers
+
+one : IsAddress 1
+one = record { some = lit< tt; fits = lit< tt }
+
+zeros : List ℕ
+zeros = 0 ∷ 0 ∷ 0 ∷ 0 ∷ 0 ∷ []
+
+pub silent-writer-refuted : RoundTrip silentWriter reading → ⊥
+unfolding silentWriter zeros reading startFault inOrder place size bitLength bits bitsIn
+silent-writer-refuted claim = omega (arith, ap (λ (x : Answer). x .refusal) (claim .readsBack 1 zeros one (lit≤ tt) .1))
+
+pub refusing-writer-refuted : RoundTrip refusingWriter reading → ⊥
+unfolding refusingWriter refuseWriting zeros place size bitLength bits bitsIn
+refusing-writer-refuted claim = omega (arith, ap (λ (w : Written). w .refusal) (claim .readsBack 1 zeros one (lit≤ tt) .0))
