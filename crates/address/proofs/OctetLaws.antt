@@ -125,7 +125,7 @@ module _ (k : ℕ) (os : List ℕ) (all : AreOctets os) where
   pub value-lt-of-zeros : value (take k os) ≡ 0 → value os < 256 ^ (length os - k)
   value-lt-of-zeros e =
       let whole : value os ≡ value (drop k os) =
-          parts ∙ ap (λ (v : ℕ). v * 256 ^ length (drop k os) + value (drop k os)) e ∙ omega (arith, zero-mul (256 ^ length (drop k os))) in
+      parts ∙ ap (λ (v : ℕ). v * 256 ^ length (drop k os) + value (drop k os)) e ∙ omega (arith, zero-mul (256 ^ length (drop k os))) in
       omega (arith, value-lt (drop k os) (drop-octets k os all), behind)
 
   pub value-ge-of-zeros : (value (take k os) ≡ 0 → ⊥) → 256 ^ (length os - k) ≤ value os

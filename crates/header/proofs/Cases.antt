@@ -30,6 +30,7 @@ reading-inverse p a k e = go (startFault p) refl (addressFault (sizeTold p) p) r
   where
     numbers : {x y : Answer} → x ≡ y → (x .refusal ≡ y .refusal) × (x .address ≡ y .address) × (x .place ≡ y .place)
     numbers q = (ap (λ (x : Answer). x .refusal) q, ap (λ (x : Answer). x .address) q, ap (λ (x : Answer). x .place) q)
+
     go : (m : ℕ) → startFault p ≡ m → (n : ℕ) → addressFault (sizeTold p) p ≡ n
         → (startFault p ≡ 0) × (addressFault (sizeTold p) p ≡ 0) × (value (addressOctets (sizeTold p) p) ≡ a) × (start + sizeTold p ≡ k)
     go zero s zero f = let same = numbers (sym (reading-found p s f) ∙ e) in (s, f, same .1, same .2)

@@ -172,12 +172,15 @@ round-trip = record {
   readsBack = λ a buffer n h.
       let (answered, left) = wrote-header a buffer n h in (answered, ap reading left ∙ reading-header n (drop (place a) buffer));
   writtenSo = λ p a k all e.
-      let (n, short, end, same) = header-read p a k all e in
-      (n, short, λ buffer h.
-      let (answered, left) = wrote-header a buffer n (subst (λ (m : ℕ). m ≤ length buffer) end h) in (
-        answered ∙ ap wrote (sym end),
-        ap (take k) left ∙ take-at (header a) (drop (place a) buffer) k (length-header a ∙ sym end) ∙ sym same,
-      ));
+      let (n, short, end, same) = header-read p a k all e in (
+        n,
+        short,
+        λ buffer h.
+            let (answered, left) = wrote-header a buffer n (subst (λ (m : ℕ). m ≤ length buffer) end h) in (
+              answered ∙ ap wrote (sym end),
+              ap (take k) left ∙ take-at (header a) (drop (place a) buffer) k (length-header a ∙ sym end) ∙ sym same,
+            ),
+      );
 }
 
 -- ---- wrong writers

@@ -5,3 +5,4 @@ pub mod Parts
 pub mod Cases
 pub mod Writing
 pub mod Demand2
+pub mod Promises

@@ -55,8 +55,7 @@ returns-4 c =
     c .zero-fault .ensures
     ∙ ap (λ (os : List ℕ). zeroFault (length os) os) (part-addressOctets size p)
     ∙ ap (λ (k : ℕ). zeroFault k (addressOctets size p)) (length-addressOctets size p room)
-    ∙ simp
-    (
+    ∙ simp (
       le-leb size 8 (c .before .before .before .before .if1 .left),
       eq-eqb (size % 2) 0 (c .before .before .before .if2 .left),
       le-ltb (length p) (3 + size) room,

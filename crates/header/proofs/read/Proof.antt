@@ -78,12 +78,12 @@ returns-3 c =
     let p = at .before .before .before .before .before .before .args .packet .now in
     let right = addressFault-zero (sizeTold p) p (address-right at) in
     let number : c .of .result .number ≡ value (addressOctets (sizeTold p) p) =
-        c .of .ensures
-        ∙ c .before .get .ensures
-        ∙ ap (λ (os : List ℕ). value os % 2 ^ 64) (part-addressOctets (sizeTold p) p)
-        ∙ value-mod (addressOctets (sizeTold p) p)
-        (octets-addressOctets (sizeTold p) p (all-octets p (λ i. omega (arith, at .before .before .shared-slice-known2 .given i))))
-        (omega (arith, length-addressOctets (sizeTold p) p (right .1), sizeAllowed-le (right .0))) in
+    c .of .ensures
+    ∙ c .before .get .ensures
+    ∙ ap (λ (os : List ℕ). value os % 2 ^ 64) (part-addressOctets (sizeTold p) p)
+    ∙ value-mod (addressOctets (sizeTold p) p)
+    (octets-addressOctets (sizeTold p) p (all-octets p (λ i. omega (arith, at .before .before .shared-slice-known2 .given i))))
+    (omega (arith, length-addressOctets (sizeTold p) p (right .1), sizeAllowed-le (right .0))) in
     ap (λ (a : ℕ). found a (3 + sizeTold p)) number ∙ sym (reading-found p (start-right (at .before .before .before)) (address-right at))
 
 pub read-spec : {M : Type 1} → statement M
