@@ -28,7 +28,7 @@ le-one P p q {n = suc (suc n)} h = absurd (omega arith)
 
 -- hosts
 
-endsInOne-snoc : (bs : List Bit) (b : Bit) → endsInOne (bs ++ (b ∷ [])) ≡ eqb (digit b) 1
+pub endsInOne-snoc : (bs : List Bit) (b : Bit) → endsInOne (bs ++ (b ∷ [])) ≡ eqb (digit b) 1
 unfolding endsInOne digit
 endsInOne-snoc [] O = refl
 endsInOne-snoc [] I = refl
@@ -64,7 +64,7 @@ if-one : (t : Bool) → eqb (if t then 1 else 0) 1 ≡ t
 if-one true = refl
 if-one false = refl
 
-hostLast-routers : (ss : List Step) → AllRouters ss → hostLast ss ≡ false
+pub hostLast-routers : (ss : List Step) → AllRouters ss → hostLast ss ≡ false
 hostLast-routers [] r = refl
 hostLast-routers (child router i ∷ up) r = refl
 hostLast-routers (child host i ∷ up) r = absurd r

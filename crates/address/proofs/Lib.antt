@@ -3,4 +3,7 @@ pub mod ChoiceLaws
 pub mod Numbers
 pub mod Steps
 pub mod Answers
+pub mod SearchLaws
+pub mod Prefixes
 pub mod OctetLaws
+pub mod SameLaws

@@ -2,7 +2,7 @@
 -- Each is one induction over the octets, from the front for `joined` and from the end for `octets`. Assumes nothing.
 use mathlib.Core.Path.{_≡_, refl, sym, ap, ap₂, _∙_, subst}
 use Prim.Native.Nat.{ℕ, zero, suc, _+_, _-_, _*_, _/_, _%_, _^_, _≤_, _<_}
-use native.Mathlib.Nat.{add-zero, add-suc, suc-add, zero-add, mod-one, mod-lt, mod-eq-of-lt, pow-suc, pow-succ', mul-assoc, one-mul, pow-le-pow-right, lt-of-lt-of-le, zero-mul, add-mul, add-assoc, mul-le-mul-right, pos-of-ne-zero}
+use native.Mathlib.Nat.{add-zero, add-suc, suc-add, zero-add, mod-one, mod-eq-of-lt, pow-suc, pow-succ', mul-assoc, one-mul, pow-le-pow-right, lt-of-lt-of-le, zero-mul, add-mul, add-assoc, mul-le-mul-right, pos-of-ne-zero}
 use native.Mathlib.Numerals.{add-one}
 use native.Mathlib.Omega.{arith}
 use mathlib.Core.List.{List, [], _∷_, _++_, append-nil, append-assoc}

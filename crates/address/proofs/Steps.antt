@@ -65,7 +65,7 @@ unfolding cut lastStep stepBits lastOf
 cut-step router i done = cut-ones 0 i done (O ∷ []) ∙ rw zero-add
 cut-step host i done = cut-ones 0 i done (I ∷ []) ∙ rw zero-add
 
-stepsOf-routers : (ss : List Step) (bs : List Bit) → AllRouters ss → stepsOf (spelled ss ++ bs) ≡ cut 0 ss bs
+pub stepsOf-routers : (ss : List Step) (bs : List Bit) → AllRouters ss → stepsOf (spelled ss ++ bs) ≡ cut 0 ss bs
 unfolding stepsOf cut spelled stepBits lastOf
 stepsOf-routers [] bs r = refl
 stepsOf-routers (child router i ∷ up) bs r =

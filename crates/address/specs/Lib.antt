@@ -5,3 +5,4 @@ pub mod Steps
 pub mod Address
 pub mod Reading
 pub mod Octets
+pub mod Search

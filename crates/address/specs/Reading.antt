@@ -1,7 +1,7 @@
 -- What is claimed of numbers, bit strings and steps: the statements alone. Their proofs are in proofs/.
 use mathlib.Core.Path.{_≡_}
 use Prim.Native.Nat.{ℕ, _^_, _<_, _≤_}
-use mathlib.Core.List.{List, [], _∷_}
+use mathlib.Core.List.{List, [], _∷_, _++_}
 use lib.ListN.{length}
 use Rattle.address.specs.Bits.{Bit, I, bits, number, longest, root}
 use Rattle.address.specs.Steps.{Step, child, router, host, steps, spelled, addressOf}
@@ -39,6 +39,11 @@ pub record ExactlyOneReading : Type 0 where
   pub has : (n : ℕ) → IsAddress n → IsReading (steps n) × (spelled (steps n) ≡ bits n)
   pub only : (n : ℕ) (ss : List Step) → IsAddress n → IsReading ss → spelled ss ≡ bits n → ss ≡ steps n
   pub back : (ss : List Step) → IsReading ss → length (spelled ss) ≤ longest → IsAddress (addressOf ss) × (steps (addressOf ss) ≡ ss)
+
+-- an ancestor, or the address itself, by steps. "The ancestors of an address are what remains when one or more of its last steps are
+-- dropped."; here none may be dropped too
+abbrev pub OnWay : List Step → List Step → Type 0
+OnWay ss ts = (dropped : List Step) × (ts ≡ dropped ++ ss)
 
 -- "Depth is the number of steps, 0 to 63.": no address has more, the root has none, and 1 with 63 zeros behind it has 63
 pub record DepthRange : Type 0 where

@@ -36,3 +36,7 @@ reading-inverse p a k e = go (startFault p) refl (addressFault (sizeTold p) p) r
     go zero s zero f = let same = numbers (sym (reading-found p s f) ∙ e) in (s, f, same .1, same .2)
     go zero s (suc n) f = absurd (omega (arith, numbers (reading-address p s (sym f) (λ z. omega arith) ∙ e) .0))
     go (suc m) s n f = absurd (omega (arith, numbers (reading-start p (sym s) (λ z. omega arith) ∙ e) .0))
+
+-- a refusal's number is never 0
+pub reading-refused : (p : List ℕ) {n : ℕ} → reading p ≡ refused n → n ≡ 0 → ⊥
+reading-refused p e z = omega (arith, reading-inverse p 0 0 (e ∙ ap refused z) .3)

@@ -1,6 +1,6 @@
 -- What the functions of this crate promise, by their contracts as the code states them, is `writing` and `reading`: the definitions of which
 -- demand 2 is proved.
-use mathlib.Core.Path.{_≡_, ap₂}
+use mathlib.Core.Path.{_≡_, sym, ap, ap₂, _∙_}
 use mathlib.Core.List.{List}
 use Prim.Native.Nat.{ℕ}
 use contract.Lifetimes.{Lfts}
@@ -9,7 +9,8 @@ use Rattle.address.specs.Octets.{Effect}
 use Rattle.address.specs.declared.Address.{Address}
 use Rattle.address.specs.declared.octets.Written.{Written}
 use Rattle.header.specs.declared.Reading.{Reading}
-use Rattle.header.specs.Header.{writing, answer, reading}
+use Rattle.header.specs.Header.{writing, Answer, foundCase, refusedCase, answer, reading}
+use Rattle.header.proofs.Cases.{reading-refused}
 use Rattle.header.proofs.write.Reads as write-reads
 use Rattle.header.proofs.read.Reads as read-reads
 
@@ -26,3 +27,13 @@ pub read-promise : (κs : Lfts 1) (packet : Slice) (r : Reading)
     → read-reads.Learnt κs (packet, tt) r (packet, tt)
     → answer r ≡ reading (now packet)
 read-promise κs packet r h = h
+
+-- the numbers promised leave one answer
+pub one-reading : (p : List ℕ) (r s : Reading) → answer r ≡ reading p → answer s ≡ reading p → r ≡ s
+unfolding answer
+one-reading p (foundCase a k) (foundCase b l) e f =
+    let same = e ∙ sym f in
+    ap₂ (λ (x y : ℕ). foundCase (record { number = x }) y) (ap (λ (x : Answer). x .address) same) (ap (λ (x : Answer). x .place) same)
+one-reading p (refusedCase m) (refusedCase n) e f = ap (λ (x : Answer). refusedCase (x .refusal)) (e ∙ sym f)
+one-reading p (foundCase a k) (refusedCase n) e f = absurd (reading-refused p (sym f) (ap (λ (x : Answer). x .refusal) (f ∙ sym e)))
+one-reading p (refusedCase m) (foundCase b l) e f = absurd (reading-refused p (sym e) (ap (λ (x : Answer). x .refusal) (e ∙ sym f)))

@@ -1,7 +1,7 @@
 -- The IPv6 form of an address. "IPv6: prefix of 8 octets, then the address in 8 octets padded with leading zeros (003, 6.3). Back: the first
 -- 8 octets must equal the prefix; the other 8 are the address."
 use Prim.Native.Nat.{ℕ}
-use mathlib.Core.Bool.{Bool, true, false, not, _&&_}
+use mathlib.Core.Bool.{not, _&&_}
 use mathlib.Core.List.{List, _++_}
 use lib.ListN.{length, take, drop}
 use lib.Dec.{eqb, ltb}

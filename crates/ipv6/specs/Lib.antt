@@ -1,3 +1,4 @@
 -- What the ipv6 crate promises, in definitions and statements alone.
 pub mod Form
 pub mod RoundTrip
+pub mod WrongWriters

@@ -1,0 +1,205 @@
+-- Prefixes of bits are ancestors by steps. Whatever spells more steps spells the ancestor's bits first, and cutting routers' bits leaves
+-- these routers done, so the bits behind only add steps. A host has no step behind it, since only the last step of a reading leads to one.
+use mathlib.Core.Path.{_≡_, refl, sym, ap, ap₂, _∙_, subst}
+use mathlib.Core.Bool.{true, false, and-eq-true-iff}
+use mathlib.Core.List.{List, [], _∷_, _++_, append-assoc, append-nil}
+use Prim.Native.Nat.{ℕ, zero, suc, _+_, _<_, _≤_}
+use native.Mathlib.Omega.{arith}
+use lib.ListN.{length, take, drop, replicate, length-append, length-take, length-replicate, take-append-drop}
+use lib.Seq.{append-snoc, take-at, drop-at}
+use Rattle.address.specs.Bits.{Bit, O, I, bits, digit, number, longest}
+use Rattle.address.specs.Steps.{Kind, router, host, Step, child, lastStep, cut, stepsOf, steps, lastOf, stepBits, spelled, addressOf}
+use Rattle.address.specs.Address.{bitLength, isHost}
+use Rattle.address.specs.Reading.{IsAddressString, IsAddress, AllRouters, IsReading, OnWay}
+use Rattle.address.specs.Search.{lookedAt, childEnd, prefix, sameBit, isPrefix, kindLooked, indexLooked}
+use Rattle.address.proofs.Numbers.{number-bits, bits-number, bits-string, bitLength-le, bitLength-pos}
+use Rattle.address.proofs.Steps.{reading-routers, reading-steps, spelled-steps, addressOf-steps, address-addressOf, steps-addressOf, stepsOf-routers}
+use Rattle.address.proofs.Answers.{endsInOne-snoc, hostLast, hostLast-routers, isHost-steps}
+
+-- one string begins another where something behind it makes the other
+
+isPrefix-append : (cs rest : List Bit) → isPrefix cs (cs ++ rest) ≡ true
+unfolding isPrefix sameBit
+isPrefix-append [] rest = refl
+isPrefix-append (O ∷ cs) rest = isPrefix-append cs rest
+isPrefix-append (I ∷ cs) rest = isPrefix-append cs rest
+
+sameBit-true : (c d : Bit) → sameBit c d ≡ true → c ≡ d
+unfolding sameBit
+sameBit-true O O e = refl
+sameBit-true O I e = cc
+sameBit-true I O e = cc
+sameBit-true I I e = refl
+
+isPrefix-true : (cs ds : List Bit) → isPrefix cs ds ≡ true → (rest : List Bit) × (ds ≡ cs ++ rest)
+unfolding isPrefix
+isPrefix-true [] ds e = (ds, refl)
+isPrefix-true (c ∷ cs) [] e = let z : _≡_ {A = ℕ} 0 1 = cc in absurd (omega arith)
+isPrefix-true (c ∷ cs) (d ∷ ds) e =
+    let both = and-eq-true-iff (sameBit c d) (isPrefix cs ds) .0 e in
+    let more = isPrefix-true cs ds (both .1) in
+    (more .0, ap₂ (λ (b : Bit) (bs : List Bit). b ∷ bs) (sym (sameBit-true c d (both .0))) (more .1))
+
+-- the bits behind those of the first steps
+behind : List Step → List Bit
+behind [] = []
+behind (s ∷ more) = behind more ++ stepBits s
+
+spelled-append : (more ss : List Step) → spelled (more ++ ss) ≡ spelled ss ++ behind more
+unfolding spelled behind
+spelled-append [] ss = sym (append-nil (spelled ss))
+spelled-append (s ∷ more) ss = rw (spelled-append more ss, append-assoc)
+
+cut-onway : (k : ℕ) (done : List Step) (bs : List Bit) → OnWay done (cut k done bs)
+unfolding cut lastStep
+cut-onway zero done [] = ([], refl)
+cut-onway (suc k) done [] = (child host k ∷ [], refl)
+cut-onway k done (O ∷ bs) =
+    let more = cut-onway 0 (child router k ∷ done) bs in
+    (more .0 ++ (child router k ∷ []), more .1 ∙ sym (append-snoc (more .0) (child router k) done))
+cut-onway k done (I ∷ bs) = cut-onway (suc k) done bs
+
+-- what stands below another step leads to routers
+
+routers-tail : (more ss : List Step) → AllRouters (more ++ ss) → AllRouters ss
+routers-tail [] ss r = r
+routers-tail (child router i ∷ more) ss r = routers-tail more ss r
+routers-tail (child host i ∷ more) ss r = absurd r
+
+reading-tail : (more ss : List Step) → IsReading (more ++ ss) → IsReading ss
+reading-tail [] ss r = r
+reading-tail (s ∷ more) ss r = reading-routers ss (routers-tail more ss r)
+
+routers-reading : (ss : List Step) → IsReading ss → hostLast ss ≡ false → AllRouters ss
+routers-reading [] r e = tt
+routers-reading (child router i ∷ up) r e = r
+routers-reading (child host i ∷ up) r e = let z : _≡_ {A = ℕ} 0 1 = cc in absurd (omega arith)
+
+pub routers-steps : {c : ℕ} → IsAddress c → isHost c ≡ false → AllRouters (steps c)
+routers-steps {c} a h = routers-reading (steps c) (reading-steps c) (sym (isHost-steps a) ∙ h)
+
+-- only the last step leads to a host
+pub routers-above : (d : ℕ) (s : Step) (more ss : List Step) → steps d ≡ s ∷ (more ++ ss) → AllRouters ss
+routers-above d s more ss e = routers-tail more ss (rw e at (reading-steps d))
+
+-- the first steps of an address, as an address
+
+module _ {d : ℕ} (b : IsAddress d) (more ss : List Step) (e : steps d ≡ more ++ ss) where
+  bits-tail : bits d ≡ spelled ss ++ behind more
+  bits-tail = rw (← spelled-steps b, e) (spelled-append more ss)
+
+  pub length-tail : length (spelled ss) ≤ bitLength d
+  unfolding bitLength
+  length-tail = rw (bits-tail, length-append) (omega arith)
+
+  short-tail : length (spelled ss) ≤ longest
+  short-tail = omega (arith, length-tail, bitLength-le (b .fits))
+
+  pub address-tail : IsAddress (addressOf ss)
+  address-tail = address-addressOf ss short-tail
+
+  pub steps-tail : steps (addressOf ss) ≡ ss
+  steps-tail = steps-addressOf ss short-tail (reading-tail more ss (rw e at (reading-steps d)))
+
+  pub prefix-tail : prefix (length (spelled ss)) d ≡ addressOf ss
+  unfolding prefix addressOf
+  prefix-tail = rw (bits-tail, take-at (spelled ss) (behind more) (length (spelled ss)) refl)
+
+-- the next step on the way to an address
+
+-- what is looked at is a run of ones, and what is looked at behind it
+lookedAt-ones : (i : ℕ) (bs : List Bit) → lookedAt (replicate i I ++ bs) ≡ replicate i I ++ lookedAt bs
+unfolding lookedAt
+lookedAt-ones zero bs = refl
+lookedAt-ones (suc i) bs = rw (lookedAt-ones i bs)
+
+lookedAt-behind : (s : Step) (more up : List Step) → IsReading (more ++ s ∷ up) → lookedAt (stepBits s ++ behind more) ≡ stepBits s
+unfolding lookedAt stepBits lastOf behind
+lookedAt-behind (child router i) more up r = rw append-assoc (lookedAt-ones i (O ∷ behind more))
+lookedAt-behind (child host i) [] up r = rw append-nil (lookedAt-ones i (I ∷ []))
+lookedAt-behind (child host i) (s ∷ more) up r = absurd (routers-tail more (child host i ∷ up) r)
+
+pub number-child : {x : ℕ} → IsAddress x → (s : Step) → number (bits x ++ stepBits s) ≡ addressOf (s ∷ steps x)
+unfolding addressOf spelled
+number-child a s = rw (spelled-steps a)
+
+module _ {x d : ℕ} (a : IsAddress x) (b : IsAddress d) (more : List Step) (s : Step) (e : steps d ≡ more ++ s ∷ steps x) where
+  pub lookedAt-step : lookedAt (drop (bitLength x) (bits d)) ≡ stepBits s
+  unfolding bitLength spelled
+  lookedAt-step =
+      let split : bits d ≡ bits x ++ (stepBits s ++ behind more) =
+      bits-tail b more (s ∷ steps x) e ∙ rw (spelled-steps a, append-assoc) in
+      rw (split, drop-at (bits x) (stepBits s ++ behind more) (length (bits x)) refl)
+      (lookedAt-behind s more (steps x) (rw e at (reading-steps d)))
+
+  pub prefix-childEnd : prefix (childEnd (bitLength x) (bits d)) d ≡ addressOf (s ∷ steps x)
+  unfolding childEnd spelled bitLength
+  prefix-childEnd =
+      let long : length (spelled (s ∷ steps x)) ≡ bitLength x + length (stepBits s) =
+      length-append (spelled (steps x)) (stepBits s) ∙ rw (spelled-steps a) in
+      rw (lookedAt-step, ← long) (prefix-tail b more (s ∷ steps x) e)
+
+pub kindLooked-stepBits : (kind : Kind) (i : ℕ) → kindLooked (stepBits (child kind i)) ≡ kind
+unfolding kindLooked stepBits lastOf digit
+kindLooked-stepBits router i = rw (endsInOne-snoc (replicate i I) O)
+kindLooked-stepBits host i = rw (endsInOne-snoc (replicate i I) I)
+
+pub indexLooked-stepBits : (kind : Kind) (i : ℕ) → indexLooked (stepBits (child kind i)) ≡ i
+unfolding indexLooked stepBits
+indexLooked-stepBits kind i = rw (length-append, length-replicate) (omega arith)
+
+string-take : {bs : List Bit} → IsAddressString bs → (k : ℕ) → 0 < k → IsAddressString (take k bs)
+string-take s zero p = absurd (omega arith)
+string-take {bs} s (suc k) p = record {
+  first = (take k (s .first .0), rw (s .first .1));
+  short = rw length-take (omega (arith, s .short));
+}
+
+-- two addresses: the first on the way to the second, or not
+
+module _ {c d : ℕ} (a : IsAddress c) (b : IsAddress d) where
+  pub steps-injective : steps c ≡ steps d → c ≡ d
+  steps-injective e = sym (addressOf-steps a) ∙ ap addressOf e ∙ addressOf-steps b
+
+  pub onway-prefix : OnWay (steps c) (steps d) → isPrefix (bits c) (bits d) ≡ true
+  onway-prefix (more, e) = rw (bits-tail b more (steps c) e, ← spelled-steps a) (isPrefix-append (spelled (steps c)) (behind more))
+
+  pub prefix-onway : isHost c ≡ false → isPrefix (bits c) (bits d) ≡ true → OnWay (steps c) (steps d)
+  unfolding steps
+  prefix-onway h p =
+      let split = isPrefix-true (bits c) (bits d) p in
+      let cutting : steps d ≡ cut 0 (steps c) (split .0) =
+      ap stepsOf (split .1 ∙ ap (λ (bs : List Bit). bs ++ split .0) (sym (spelled-steps a))) ∙ stepsOf-routers (steps c) (split .0) (routers-steps a h) in
+      let more = cut-onway 0 (steps c) (split .0) in
+      (more .0, cutting ∙ more .1)
+
+  -- no step follows one that leads to a host
+  pub host-onway : isHost c ≡ true → OnWay (steps c) (steps d) → c ≡ d
+  host-onway h (more, e) = go more e
+    where
+      go : (more : List Step) → steps d ≡ more ++ steps c → c ≡ d
+      go [] e = steps-injective (sym e)
+      go (s ∷ more) e =
+          let last = hostLast-routers (steps c) (routers-tail more (steps c) (rw e at (reading-steps d))) in
+          let z : _≡_ {A = ℕ} 0 1 = cc (isHost-steps a) in
+          absurd (omega arith)
+
+  -- the prefix as the code compares it
+
+  pub prefix-eq : isPrefix (bits c) (bits d) ≡ true → prefix (bitLength c) d ≡ c
+  unfolding prefix bitLength
+  prefix-eq p =
+      let split = isPrefix-true (bits c) (bits d) p in
+      rw (split .1, take-at (bits c) (split .0) (length (bits c)) refl) (number-bits (a .fits))
+
+  pub prefix-ancestor : OnWay (steps c) (steps d) → prefix (bitLength c) d ≡ c
+  prefix-ancestor w = prefix-eq (onway-prefix w)
+
+  pub prefix-isPrefix : prefix (bitLength c) d ≡ c → isPrefix (bits c) (bits d) ≡ true
+  unfolding prefix
+  prefix-isPrefix e =
+      let same : bits c ≡ take (bitLength c) (bits d) =
+      ap bits (sym e) ∙ bits-number (string-take (bits-string b) (bitLength c) (bitLength-pos a)) in
+      rw same
+      (subst (λ (ds : List Bit). isPrefix (take (bitLength c) (bits d)) ds ≡ true) (take-append-drop (bitLength c) (bits d))
+      (isPrefix-append (take (bitLength c) (bits d)) (drop (bitLength c) (bits d))))

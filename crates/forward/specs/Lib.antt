@@ -1,0 +1,2 @@
+-- What the forward crate promises, in definitions alone.
+pub mod Forward

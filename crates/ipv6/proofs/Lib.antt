@@ -1,0 +1,4 @@
+-- The laws of the ipv6 crate.
+pub mod FormLaws
+pub mod Demand2
+pub mod Promises

@@ -1,0 +1,4 @@
+-- The laws of the node crate.
+pub mod ChildLaws
+pub mod Children
+pub mod Promises

@@ -1,0 +1,53 @@
+-- `Node::is_good` meets its contract: its tests are those of `isGood`, in the same order.
+use mathlib.Core.Path.{sym}
+use native.Mathlib.Omega.{arith}
+use borrow.Author.Needs.{needs}
+use Rattle.address.proofs.Numbers.{bitLength-le}
+use Rattle.node.proofs.ChildLaws.{isGood-zero, isGood-host-routers, isGood-host, isGood-routers, isGood-hosts}
+use Rattle.node.proofs.Node.is_good.Statement.{statement}
+use Rattle.node.proofs.Node.is_good.Tie as tie
+
+returns : tie.Need-returns
+returns c = sym (isGood-zero _ (omega arith))
+
+is-host-requires : tie.Need-is-host-requires
+is-host-requires c κs = search needs
+
+returns-2 : tie.Need-returns-2
+returns-2 c = sym (isGood-host-routers _ (omega arith) (cc) (omega arith))
+
+returns-3 : tie.Need-returns-3
+returns-3 c = sym (isGood-host _ (omega arith) (cc) (omega arith))
+
+bit-length-requires : tie.Need-bit-length-requires
+bit-length-requires c κs = search needs
+
+sub-room : tie.Need-sub-room
+sub-room c = omega (arith, bitLength-le {n = c .before .before .before .before .before .args .self .address .number} (omega arith))
+
+cast-if4 : tie.Need-cast-if4
+cast-if4 c = search needs
+
+returns-4 : tie.Need-returns-4
+returns-4 c = sym (isGood-routers _ (omega arith) (cc) (omega arith))
+
+cast-result : tie.Need-cast-result
+cast-result c = search needs
+
+returns-5 : tie.Need-returns-5
+returns-5 c = rw (c .before .before .before .bit-length .ensures) (sym (isGood-hosts _ (omega arith) (cc) (omega arith)))
+
+pub is-good-spec : {M : Type 1} → statement M
+is-good-spec =
+    tie.close
+    (tie.spec
+    returns
+    is-host-requires
+    returns-2
+    returns-3
+    bit-length-requires
+    sub-room
+    cast-if4
+    returns-4
+    cast-result
+    returns-5)

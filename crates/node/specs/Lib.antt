@@ -1,0 +1,2 @@
+-- What the node crate promises, in definitions alone.
+pub mod Node

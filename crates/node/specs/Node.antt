@@ -1,0 +1,62 @@
+-- A node's record, and the request for a child. "A node record is its address with two counts: router children and host children given so
+-- far."
+use Prim.Native.Nat.{ℕ, suc, _+_, _-_}
+use mathlib.Core.Bool.{Bool, true, false, not, _&&_}
+use mathlib.Core.List.{List, _++_}
+use lib.ListN.{length}
+use lib.Dec.{eqb, leb, ltb}
+use Rattle.address.specs.Choice.{if_then_else_}
+use Rattle.address.specs.Bits.{Bit, bits, number, longest}
+use Rattle.address.specs.Address.{bitLength, isHost}
+use Rattle.address.specs.Steps.{Step, child, stepBits}
+use Rattle.address.specs.declared.Address.{Address}
+use Rattle.address.specs.declared.Kind.{Kind}
+use Rattle.address.specs.declared.Kind.the-variants.{Router, Host}
+pub use Rattle.node.specs.declared.Node.{Node}
+pub use Rattle.node.specs.declared.Given.{Given}
+
+-- the number of a record's address
+abbrev pub addressIn : Node → ℕ
+addressIn n = n .address .number
+
+abbrev pub addressAt : ℕ → Address
+addressAt a = record { number = a }
+
+-- "The child's own record starts with both counts 0."
+unfoldable pub fresh : ℕ → Node
+fresh a = record { address = addressAt a; routers = 0; hosts = 0 }
+
+-- the children of a kind given so far
+unfoldable pub count : Kind → Node → ℕ
+count Router n = n .routers
+count Host n = n .hosts
+
+-- the record with the count of a kind raised by one
+unfoldable pub raised : Kind → Node → Node
+raised Router n = record { address = n .address; routers = n .routers + 1; hosts = n .hosts }
+raised Host n = record { address = n .address; routers = n .routers; hosts = n .hosts + 1 }
+
+-- "For the root or a router of n bits each count is 0 to 64-n. For a host both are 0. Any other record is bad.": a record of address zero is
+-- of neither
+unfoldable pub isGood : Node → Bool
+isGood n =
+    if eqb (addressIn n) 0 then false
+    else if isHost (addressIn n) then eqb (n .routers) 0 && eqb (n .hosts) 0
+    else leb (n .routers) (longest - bitLength (addressIn n)) && leb (n .hosts) (longest - bitLength (addressIn n))
+
+-- "own address, then as many ones as the old count of that kind, then 0 for a router or 1 for a host"
+unfoldable pub childBits : Node → Kind → List Bit
+childBits n kind = bits (addressIn n) ++ stepBits (child kind (count kind n))
+
+-- "With any refusal the address .. and every other number returned beside its own are 0, a returned record is the one handed in"
+unfoldable pub refuse : ℕ → Node → Given
+refuse number n = record { node = n; child = addressAt 0; refusal = number }
+
+-- "Asked for a child, the node hands itself back with one count raised and the child's address". The order is 1, 2, 3: the record is bad; a
+-- host is asked; the child would be longer than 64 bits.
+unfoldable pub childOf : Node → Kind → Given
+childOf n kind =
+    if not (isGood n) then refuse 1 n
+    else if isHost (addressIn n) then refuse 2 n
+    else if ltb longest (length (childBits n kind)) then refuse 3 n
+    else record { node = raised kind n; child = addressAt (number (childBits n kind)); refusal = 0 }

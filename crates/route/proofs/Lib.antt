@@ -1,0 +1,7 @@
+-- The laws of the route crate.
+pub mod Turning
+pub mod PathLaws
+pub mod Length
+mod Underway
+mod Listing
+pub mod Promises

@@ -1,0 +1,310 @@
+-- Turning points and paths, by steps. Whatever is on one way is told apart by its length alone (`onWay-unique`), so the turning point is the
+-- only deepest one, from either side; a path then loses its first address with each step up or down. Assumes nothing.
+use mathlib.Core.Path.{_≡_, refl, sym, ap, _∙_}
+use mathlib.Core.Logic.{_⊎_, inl, inr, ⊎-elim}
+use mathlib.Core.Bool.{Bool, true, false, _&&_, _||_, and-eq-true-iff, or-true}
+use mathlib.Core.List.{List, [], _∷_, _++_, reverse, append-nil, append-assoc, reverse-append, reverse-cons, List·Memᴰ, List·Memᴰ·head, List·Memᴰ·tail, List·Memᴰ·eq-of-singleton, List·Memᴰ·append-cases, List·Memᴰ·cases-cons, List·Memᴰ·not-nil}
+use Prim.Native.Nat.{ℕ, _+_, _-_, _*_, _≤_}
+use native.Mathlib.Nat.{le-refl, le-antisymm}
+use native.Mathlib.Omega.{arith}
+use borrow.Author.Tests.{eq-eqb, eqb-true, lt-ltb, le-ltb, ltb-true, ltb-false}
+use lib.Dec.{eqb, ltb}
+use lib.ListN.{length, length-append, length-reverse}
+use Rattle.address.specs.Choice.{if_then_else_}
+use Rattle.address.specs.Steps.{Step, child}
+use Rattle.address.specs.declared.Kind.{Kind}
+use Rattle.address.specs.declared.Kind.the-variants.{Router as router, Host as host}
+use Rattle.address.specs.Reading.{OnWay}
+use Rattle.route.specs.Path.{sameKind, sameSteps, isOnWay, turn, below, pathOf}
+use Rattle.route.specs.TurningPoint.{IsTurningPoint, TurningPoints}
+
+-- the same steps
+
+sameKind-refl : (k : Kind) → sameKind k k ≡ true
+unfolding sameKind
+sameKind-refl router = refl
+sameKind-refl host = refl
+
+sameKind-true : (k l : Kind) → sameKind k l ≡ true → k ≡ l
+unfolding sameKind
+sameKind-true router router e = refl
+sameKind-true router host e = cc
+sameKind-true host router e = cc
+sameKind-true host host e = refl
+
+pub sameSteps-refl : (ss : List Step) → sameSteps ss ss ≡ true
+unfolding sameSteps
+sameSteps-refl [] = refl
+sameSteps-refl (child k i ∷ ss) = rw (sameKind-refl k, eq-eqb i i refl) (sameSteps-refl ss)
+
+pub sameSteps-true : (ss ts : List Step) → sameSteps ss ts ≡ true → ss ≡ ts
+unfolding sameSteps
+sameSteps-true [] [] e = refl
+sameSteps-true [] (t ∷ ts) e = cc
+sameSteps-true (s ∷ ss) [] e = cc
+sameSteps-true (child k i ∷ ss) (child l j ∷ ts) e =
+    let all = and-eq-true-iff (sameKind k l && eqb i j) (sameSteps ss ts) .0 e in
+    let first = and-eq-true-iff (sameKind k l) (eqb i j) .0 (all .0) in
+    cc (sameKind-true k l (first .0), eqb-true i j (first .1), sameSteps-true ss ts (all .1))
+
+-- on the way
+
+pub onWay-refl : (ss : List Step) → OnWay ss ss
+onWay-refl ss = ([], refl)
+
+pub onWay-root : (ts : List Step) → OnWay [] ts
+onWay-root ts = (ts, sym (append-nil ts))
+
+pub onWay-cons : (t : Step) (ss ts : List Step) → OnWay ss ts → OnWay ss (t ∷ ts)
+onWay-cons t ss ts (dropped, e) = (t ∷ dropped, ap (λ (l : List Step). t ∷ l) e)
+
+pub onWay-tail : (s : Step) (ss ts : List Step) → OnWay (s ∷ ss) ts → OnWay ss ts
+onWay-tail s ss ts (dropped, e) = (dropped ++ (s ∷ []), e ∙ sym (append-assoc dropped (s ∷ []) ss))
+
+pub onWay-length : (ss ts : List Step) → OnWay ss ts → length ss ≤ length ts
+onWay-length ss ts (dropped, e) = omega (arith, ap length e, length-append dropped ss)
+
+pub onWay-cases : (ss : List Step) (t : Step) (ts : List Step) → OnWay ss (t ∷ ts) → (ss ≡ t ∷ ts) ⊎ OnWay ss ts
+onWay-cases ss t ts ([], e) = inl (sym e)
+onWay-cases ss t ts (d ∷ dropped, e) = inr (dropped, cc)
+
+-- the next step down a way, if there is one
+pub onWay-next : (x ts : List Step) → OnWay x ts → (x ≡ ts) ⊎ ((s : Step) × OnWay (s ∷ x) ts)
+onWay-next x ts ([], e) = inl (sym e)
+onWay-next x ts (d ∷ dropped, e) = inr (⊎-elim this further (onWay-next x (dropped ++ x) (dropped, refl)))
+  where
+    this : x ≡ dropped ++ x → (s : Step) × OnWay (s ∷ x) ts
+    this f = (d, ([], e ∙ ap (λ (l : List Step). d ∷ l) (sym f)))
+
+    further : (s : Step) × OnWay (s ∷ x) (dropped ++ x) → (s : Step) × OnWay (s ∷ x) ts
+    further (s, w) = (s, rw e (onWay-cons d (s ∷ x) (dropped ++ x) w))
+
+-- of two on one way the one with fewer steps is on the other's way
+pub onWay-le : (xs ys zs : List Step) → OnWay xs zs → OnWay ys zs → length xs ≤ length ys → OnWay xs ys
+onWay-le [] ys [] v w h = onWay-root ys
+onWay-le (x ∷ xs) ys [] v w h = absurd (omega (arith, onWay-length (x ∷ xs) [] v))
+onWay-le xs ys (z ∷ zs) v w h = go (onWay-cases xs z zs v) (onWay-cases ys z zs w) (onWay-le xs ys zs)
+  where
+    go : (xs ≡ z ∷ zs) ⊎ OnWay xs zs → (ys ≡ z ∷ zs) ⊎ OnWay ys zs → (OnWay xs zs → OnWay ys zs → length xs ≤ length ys → OnWay xs ys) → OnWay xs ys
+    go a (inl e) rest = rw e v
+    go (inl e) (inr b) rest = absurd (omega (arith, ap length e, onWay-length ys zs b))
+    go (inr a) (inr b) rest = rest a b h
+
+pub onWay-same : (xs ys : List Step) → OnWay xs ys → length ys ≤ length xs → xs ≡ ys
+onWay-same xs ys ([], e) h = sym e
+onWay-same xs ys (d ∷ dropped, e) h = absurd (omega (arith, ap length e, length-append dropped xs))
+
+pub onWay-antisym : (xs ys : List Step) → OnWay xs ys → OnWay ys xs → xs ≡ ys
+onWay-antisym xs ys v w = onWay-same xs ys v (onWay-length ys xs w)
+
+pub onWay-unique : (xs ys zs : List Step) → OnWay xs zs → OnWay ys zs → length xs ≡ length ys → xs ≡ ys
+onWay-unique xs ys zs v w e = onWay-same xs ys (onWay-le xs ys zs v w (omega arith)) (omega arith)
+
+pub isOnWay-true : (ss ts : List Step) → isOnWay ss ts ≡ true → OnWay ss ts
+unfolding isOnWay
+isOnWay-true ss [] e = ([], sym (sameSteps-true ss [] e))
+isOnWay-true ss (t ∷ ts) e = go (sameSteps ss (t ∷ ts)) refl e (isOnWay-true ss ts)
+  where
+    go : (same : Bool) → sameSteps ss (t ∷ ts) ≡ same → (same || isOnWay ss ts) ≡ true → (isOnWay ss ts ≡ true → OnWay ss ts) → OnWay ss (t ∷ ts)
+    go true s e rest = ([], sym (sameSteps-true ss (t ∷ ts) s))
+    go false s e rest = onWay-cons t ss ts (rest e)
+
+pub isOnWay-append : (dropped ss : List Step) → isOnWay ss (dropped ++ ss) ≡ true
+unfolding isOnWay
+isOnWay-append [] [] = sameSteps-refl []
+isOnWay-append [] (s ∷ ss) = rw (sameSteps-refl (s ∷ ss))
+isOnWay-append (d ∷ dropped) ss = rw (isOnWay-append dropped ss, or-true)
+
+pub isOnWay-onWay : (ss ts : List Step) → OnWay ss ts → isOnWay ss ts ≡ true
+isOnWay-onWay ss ts (dropped, e) = ap (isOnWay ss) e ∙ isOnWay-append dropped ss
+
+pub isOnWay-off : (ss ts : List Step) → (OnWay ss ts → ⊥) → isOnWay ss ts ≡ false
+isOnWay-off ss ts off = go (isOnWay ss ts) refl
+  where
+    go : (t : Bool) → isOnWay ss ts ≡ t → t ≡ false
+    go true e = absurd (off (isOnWay-true ss ts e))
+    go false e = refl
+
+pub isOnWay-false : (ss ts : List Step) → isOnWay ss ts ≡ false → OnWay ss ts → ⊥
+isOnWay-false ss ts e w = let z : _≡_ {A = ℕ} 0 1 = cc (isOnWay-onWay ss ts w) in omega arith
+
+-- the turning point
+
+pub turn-on : (ss ts : List Step) → OnWay ss ts → turn ss ts ≡ ss
+unfolding turn
+turn-on [] ts w = refl
+turn-on (s ∷ up) ts w = rw (isOnWay-onWay (s ∷ up) ts w)
+
+pub turn-off : (s : Step) (up ts : List Step) → (OnWay (s ∷ up) ts → ⊥) → turn (s ∷ up) ts ≡ turn up ts
+unfolding turn
+turn-off s up ts off = rw (isOnWay-off (s ∷ up) ts off)
+
+pub turning-points : TurningPoints
+unfolding turn
+turning-points [] ts = record { ofFirst = onWay-refl []; ofSecond = onWay-root ts; deepest = λ y v w. onWay-length y [] v }
+turning-points (s ∷ up) ts = go (isOnWay (s ∷ up) ts) refl (turning-points up ts)
+  where
+    go : (on : Bool) → isOnWay (s ∷ up) ts ≡ on → IsTurningPoint up ts (turn up ts) → IsTurningPoint (s ∷ up) ts (turn (s ∷ up) ts)
+    go true e above =
+        let w = isOnWay-true (s ∷ up) ts e in
+        rw (turn-on (s ∷ up) ts w) (record { ofFirst = onWay-refl (s ∷ up); ofSecond = w; deepest = λ y v u. onWay-length y (s ∷ up) v })
+    go false e above =
+        let off = isOnWay-false (s ∷ up) ts e in
+        rw (turn-off s up ts off) (record {
+          ofFirst = onWay-cons s (turn up ts) up (above .ofFirst);
+          ofSecond = above .ofSecond;
+          deepest = λ y v u. ⊎-elim (λ e. absurd (off (rw e at u))) (λ v. above .deepest y v u) (onWay-cases y s up v);
+        })
+
+-- there is one turning point only
+pub turn-unique : (ss ts x : List Step) → IsTurningPoint ss ts x → turn ss ts ≡ x
+turn-unique ss ts x p =
+    let q = turning-points ss ts in
+    onWay-unique (turn ss ts) x ss (q .ofFirst) (p .ofFirst)
+    (le-antisymm (p .deepest (turn ss ts) (q .ofFirst) (q .ofSecond)) (q .deepest x (p .ofFirst) (p .ofSecond)))
+
+pub turn-comm : (ss ts : List Step) → turn ss ts ≡ turn ts ss
+turn-comm ss ts =
+    let p = turning-points ts ss in
+    turn-unique ss ts (turn ts ss) (record { ofFirst = p .ofSecond; ofSecond = p .ofFirst; deepest = λ y v w. p .deepest y w v })
+
+pub turn-self : (ss : List Step) → turn ss ss ≡ ss
+turn-self ss = turn-on ss ss (onWay-refl ss)
+
+-- `turn-on` from the other side
+pub turn-on-comm : (ss ts : List Step) → OnWay ss ts → turn ts ss ≡ ss
+turn-on-comm ss ts w = turn-comm ts ss ∙ turn-on ss ts w
+
+pub length-turn-first : (ss ts : List Step) → length (turn ss ts) ≤ length ss
+length-turn-first ss ts = onWay-length (turn ss ts) ss (turning-points ss ts .ofFirst)
+
+pub length-turn-second : (ss ts : List Step) → length (turn ss ts) ≤ length ts
+length-turn-second ss ts = onWay-length (turn ss ts) ts (turning-points ss ts .ofSecond)
+
+-- what has more than k steps
+
+pub below-short : (k : ℕ) (ss : List Step) → length ss ≤ k → below k ss ≡ []
+unfolding below
+below-short k [] h = refl
+below-short k (s ∷ up) h = rw (le-ltb k (length (s ∷ up)) h)
+
+pub below-cons : (k : ℕ) (s : Step) (up : List Step) → k ≤ length up → below k (s ∷ up) ≡ (s ∷ up) ∷ below k up
+unfolding below
+below-cons k s up h = rw (lt-ltb k (length (s ∷ up)) (omega arith))
+
+pub below-self : (ss : List Step) → below (length ss) ss ≡ []
+below-self ss = below-short (length ss) ss (le-refl (length ss))
+
+pub below-append : (s : Step) (dropped x : List Step)
+    → below (length x) (s ∷ (dropped ++ x)) ≡ (s ∷ (dropped ++ x)) ∷ below (length x) (dropped ++ x)
+below-append s dropped x = below-cons (length x) s (dropped ++ x) (omega (arith, length-append dropped x))
+
+-- the last of them is one step below x
+pub below-snoc : (more : List Step) (s : Step) (x : List Step)
+    → below (length x) (more ++ (s ∷ x)) ≡ below (length (s ∷ x)) (more ++ (s ∷ x)) ++ ((s ∷ x) ∷ [])
+below-snoc [] s x = below-cons (length x) s x (le-refl (length x)) ∙ rw (below-self x, below-self (s ∷ x))
+below-snoc (m ∷ more) s x =
+    let long = length-append more (s ∷ x) in
+    below-cons (length x) m (more ++ (s ∷ x)) (omega arith)
+    ∙ rw (below-snoc more s x, below-cons (length (s ∷ x)) m (more ++ (s ∷ x)) (omega arith))
+
+pub length-below : (k : ℕ) (ss : List Step) → length (below k ss) ≡ length ss - k
+unfolding below
+length-below k [] = omega arith
+length-below k (s ∷ up) = go (ltb k (length (s ∷ up))) refl (length-below k up)
+  where
+    go : (t : Bool) → ltb k (length (s ∷ up)) ≡ t → length (below k up) ≡ length up - k → length (if t then (s ∷ up) ∷ below k up else []) ≡ length (s ∷ up) - k
+    go true e rest = let h = ltb-true k (length (s ∷ up)) e in omega arith
+    go false e rest = let h = ltb-false k (length (s ∷ up)) e in omega arith
+
+pub mem-below : (k : ℕ) (ss x : List Step) → List·Memᴰ x (below k ss) → OnWay x ss
+unfolding below
+mem-below k [] x m = absurd (List·Memᴰ·not-nil m)
+mem-below k (s ∷ up) x m = go (ltb k (length (s ∷ up))) m (mem-below k up x)
+  where
+    go : (t : Bool) → List·Memᴰ x (if t then (s ∷ up) ∷ below k up else []) → (List·Memᴰ x (below k up) → OnWay x up) → OnWay x (s ∷ up)
+    go true m rest = ⊎-elim (λ e. ([], sym e)) (λ n. onWay-cons s x up (rest n)) (List·Memᴰ·cases-cons m)
+    go false m rest = absurd (List·Memᴰ·not-nil m)
+
+-- the path
+
+-- down from one that is on the way
+pub pathOf-on : (x ts : List Step) → OnWay x ts → pathOf x ts ≡ x ∷ reverse (below (length x) ts)
+unfolding pathOf
+pathOf-on x ts w = rw (turn-on x ts w, below-self x)
+
+-- up to one that is on the way
+pub pathOf-on-comm : (x ss : List Step) → OnWay x ss → pathOf ss x ≡ below (length x) ss ++ (x ∷ [])
+unfolding pathOf
+pathOf-on-comm x ss w = rw (turn-on-comm x ss w, below-self x)
+
+-- up, and from the turning point down
+pub pathOf-turn : (ss ts : List Step) → pathOf ss ts ≡ below (length (turn ss ts)) ss ++ pathOf (turn ss ts) ts
+pathOf-turn ss ts = rw (pathOf-on (turn ss ts) ts (turning-points ss ts .ofSecond)) (unfold pathOf in refl)
+
+pub pathOf-self : (ss : List Step) → pathOf ss ss ≡ ss ∷ []
+pathOf-self ss = pathOf-on ss ss (onWay-refl ss) ∙ rw (below-self ss)
+
+pub pathOf-up : (s : Step) (up ts : List Step) → (OnWay (s ∷ up) ts → ⊥) → pathOf (s ∷ up) ts ≡ (s ∷ up) ∷ pathOf up ts
+unfolding pathOf
+pathOf-up s up ts off = rw (turn-off s up ts off, below-cons (length (turn up ts)) s up (length-turn-first up ts))
+
+pub pathOf-down : (more : List Step) (s : Step) (x : List Step) → pathOf x (more ++ (s ∷ x)) ≡ x ∷ pathOf (s ∷ x) (more ++ (s ∷ x))
+pathOf-down more s x =
+    pathOf-on x (more ++ (s ∷ x)) (onWay-tail s x (more ++ (s ∷ x)) (more, refl))
+    ∙ rw (below-snoc more s x, reverse-append, pathOf-on (s ∷ x) (more ++ (s ∷ x)) (more, refl))
+
+pub length-pathOf : (ss ts : List Step) → length (pathOf ss ts) + 2 * length (turn ss ts) ≡ length ss + length ts + 1
+unfolding pathOf
+length-pathOf ss ts =
+    rw (length-append, length-reverse, length-below, length-below)
+    (omega (arith, length-turn-first ss ts, length-turn-second ss ts))
+
+-- one step further up or down makes the path longer or shorter by one
+pub length-pathOf-cons : (s : Step) (up ts : List Step)
+    → (length (pathOf (s ∷ up) ts) ≡ length (pathOf up ts) + 1) ⊎ (length (pathOf up ts) ≡ length (pathOf (s ∷ up) ts) + 1)
+length-pathOf-cons s up ts = go (isOnWay (s ∷ up) ts) refl
+  where
+    go : (on : Bool) → isOnWay (s ∷ up) ts ≡ on
+        → (length (pathOf (s ∷ up) ts) ≡ length (pathOf up ts) + 1) ⊎ (length (pathOf up ts) ≡ length (pathOf (s ∷ up) ts) + 1)
+    go true e = let (more, f) = isOnWay-true (s ∷ up) ts e in inr (omega (arith, ap length (rw (← f) at (pathOf-down more s up))))
+    go false e = inl (omega (arith, ap length (pathOf-up s up ts (isOnWay-false (s ∷ up) ts e))))
+
+pub pathOf-first : (ss ts : List Step) → (rest : List (List Step)) × (pathOf ss ts ≡ ss ∷ rest)
+pathOf-first [] ts = (_, pathOf-on [] ts (onWay-root ts))
+pathOf-first (s ∷ up) ts = go (isOnWay (s ∷ up) ts) refl
+  where
+    go : (on : Bool) → isOnWay (s ∷ up) ts ≡ on → (rest : List (List Step)) × (pathOf (s ∷ up) ts ≡ (s ∷ up) ∷ rest)
+    go true e = (_, pathOf-on (s ∷ up) ts (isOnWay-true (s ∷ up) ts e))
+    go false e = (_, pathOf-up s up ts (isOnWay-false (s ∷ up) ts e))
+
+pathOf-last-on : (dropped x : List Step) → (front : List (List Step)) × (pathOf x (dropped ++ x) ≡ front ++ ((dropped ++ x) ∷ []))
+pathOf-last-on [] x = ([], pathOf-self x)
+pathOf-last-on (d ∷ dropped) x =
+    (x ∷ reverse (below (length x) (dropped ++ x)), pathOf-on x (d ∷ (dropped ++ x)) (d ∷ dropped, refl) ∙ rw (below-append d dropped x, reverse-cons))
+
+pub pathOf-last : (ss ts : List Step) → (front : List (List Step)) × (pathOf ss ts ≡ front ++ (ts ∷ []))
+pathOf-last ss ts = go (turn ss ts) (turning-points ss ts .ofSecond) (pathOf-turn ss ts)
+  where
+    go : (x : List Step) → OnWay x ts → pathOf ss ts ≡ below (length x) ss ++ pathOf x ts → (front : List (List Step)) × (pathOf ss ts ≡ front ++ (ts ∷ []))
+    go x (dropped, e) split =
+        let (front, down) = pathOf-last-on dropped x in
+        (below (length x) ss ++ front, split ∙ rw (e, down, append-assoc))
+
+mem-reverse : {x : List Step} (l : List (List Step)) → List·Memᴰ x (reverse l) → List·Memᴰ x l
+mem-reverse [] m = m
+mem-reverse (a ∷ l) m =
+    ⊎-elim
+    (λ n. List·Memᴰ·tail (mem-reverse l n))
+    (λ n. List·Memᴰ·head (List·Memᴰ·eq-of-singleton n))
+    (List·Memᴰ·append-cases (reverse l) (rw (reverse-cons a l) at m))
+
+-- every address of the path is an ancestor-or-self of one of its ends
+pub mem-pathOf : (ss ts x : List Step) → List·Memᴰ x (pathOf ss ts) → OnWay x ss ⊎ OnWay x ts
+unfolding pathOf
+mem-pathOf ss ts x m =
+    let k = length (turn ss ts) in
+    ⊎-elim
+    (λ n. inl (mem-below k ss x n))
+    (λ n. inr (⊎-elim (λ e. rw e (turning-points ss ts .ofSecond)) (λ l. mem-below k ts x (mem-reverse (below k ts) l)) (List·Memᴰ·cases-cons n)))
+    (List·Memᴰ·append-cases (below k ss) m)

@@ -1,0 +1,3 @@
+-- What the route crate promises, in definitions and statements alone.
+pub mod Path
+pub mod TurningPoint
