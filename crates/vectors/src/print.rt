@@ -22,6 +22,12 @@ pub fn binary(number: u64) {
     }
 }
 
+// The number in binary digits, behind a space.
+pub fn spaced(number: u64) {
+    text(b" ");
+    binary(number);
+}
+
 fn wide(octet: u8) -> u64 {
     octet as u64
 }
@@ -84,7 +90,7 @@ pub fn address(expected: u64, refusal: u8, got: u64, got_refusal: u8) {
 }
 
 // An address, or the refusal in its place.
-fn named(number: u64, refusal: u8) {
+pub fn named(number: u64, refusal: u8) {
     text(b" ");
     if refusal == 0 {
         binary(number);

@@ -1,0 +1,58 @@
+-- `vectors::paths::list` is safe: the index stays within the words. Assumes nothing.
+use Prim.Native.Nat.{_≤_, _-_}
+use lib.ListN.{length}
+use borrow.Author.Needs.{needs}
+use Rattle.vectors.proofs.paths.list.Statement.{statement}
+use Rattle.vectors.proofs.paths.list.Tie as tie
+use Rattle.vectors.proofs.paths.list.Reads as reads
+use Rattle.vectors.proofs.paths.list.Lts as lts
+use Rattle.vectors.proofs.print.spaced.Reads as spaced-reads
+
+abbrev Inv-loop : tie.InvT-loop
+Inv-loop from count i₀ i = i ≤ length from
+
+abbrev μ-loop : tie.MeasureT-loop
+μ-loop from count i₀ i = length from - i
+
+loop-holds : tie.Need-loop-holds Inv-loop μ-loop
+loop-holds c = search needs
+
+returns : tie.Need-returns Inv-loop μ-loop
+returns c = search needs
+
+mul-spaced : tie.Need-mul-spaced Inv-loop μ-loop
+mul-spaced c = search needs
+
+shared-slice-read-spaced : tie.Need-shared-slice-read-spaced Inv-loop μ-loop
+shared-slice-read-spaced c = search needs
+
+spaced-requires : tie.Need-spaced-requires Inv-loop μ-loop
+spaced-requires c κs = search needs
+
+add-i : tie.Need-add-i Inv-loop μ-loop
+add-i c = search needs
+
+loop-less : tie.Need-loop-less Inv-loop μ-loop
+loop-less c = search needs
+
+loop-again : tie.Need-loop-again Inv-loop μ-loop
+loop-again c = search needs
+
+returns-2 : tie.Need-returns-2 Inv-loop μ-loop
+returns-2 c = search needs
+
+pub list-spec : {M : Type 1} → statement M
+list-spec =
+    tie.close
+    (tie.spec
+    Inv-loop
+    μ-loop
+    loop-holds
+    returns
+    mul-spaced
+    shared-slice-read-spaced
+    spaced-requires
+    add-i
+    loop-less
+    loop-again
+    returns-2)
