@@ -26,6 +26,10 @@ addressAt a = record { number = a }
 unfoldable pub fresh : ℕ → Node
 fresh a = record { address = addressAt a; routers = 0; hosts = 0 }
 
+-- a record with other counts
+unfoldable pub withCounts : ℕ → ℕ → Node → Node
+withCounts routers hosts n = record { address = n .address; routers = routers; hosts = hosts }
+
 -- the children of a kind given so far
 unfoldable pub count : Kind → Node → ℕ
 count Router n = n .routers

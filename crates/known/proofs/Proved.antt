@@ -1,0 +1,18 @@
+-- Every row holds by computation. Assumes nothing.
+use mathlib.Core.Path.{refl}
+use Rattle.known.specs.Known.{KnownValues, table, afterAll}
+use Rattle.address.specs.Bits.{lastBit, bitsIn, bits, digit, numberFrom, number}
+use Rattle.address.specs.Steps.{lastStep, cut, stepsOf, steps, lastOf, stepBits, spelled, addressOf}
+use Rattle.address.specs.Address.{bitLength, endsInOne, isHost, above, parent}
+use Rattle.address.specs.Octets.{octets, joined, value, refuseWriting, write}
+use Rattle.address.specs.Search.{lookedAt, sameBit, isPrefix, kindLooked, indexLooked}
+use Rattle.node.specs.Node.{fresh, withCounts, count, raised, isGood, childBits, refuse, childOf}
+use Rattle.forward.specs.Forward.{toward, rules, nextHop}
+use Rattle.header.specs.Header.{size, sizeAllowed, place, header, writing, inOrder, startFault, sizeTold, addressOctets, zeroFault, addressFault, reading}
+
+pub known-values : KnownValues
+unfolding table afterAll
+    lastBit bitsIn bits digit numberFrom number lastStep cut stepsOf steps lastOf stepBits spelled addressOf bitLength endsInOne isHost above parent
+    octets joined value refuseWriting write lookedAt sameBit isPrefix kindLooked indexLooked fresh withCounts count raised isGood childBits refuse
+    childOf toward rules nextHop size sizeAllowed place header writing inOrder startFault sizeTold addressOctets zeroFault addressFault reading
+known-values = ((refl, refl), ((refl, refl), ((refl, refl), ((refl, refl), ((refl, refl), ((refl, refl), ((refl, refl), ((refl, refl), (refl, (refl, (refl, (refl, (refl, (refl, (refl, tt)))))))))))))))

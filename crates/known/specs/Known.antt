@@ -1,0 +1,73 @@
+-- "Cases marked P are proved, gathered in a single table under one claim. Each P reaches to the end of the sentence it opens." Each row is
+-- computed at the definition that the function promises: `childOf`, `nextHop`, `writing`, `reading`.
+use Prim.Native.Nat.{ℕ}
+use mathlib.Core.Path.{_≡_}
+use mathlib.Core.List.{List, [], _∷_, _++_}
+use lib.ListN.{length, drop}
+use Rattle.address.specs.declared.Kind.{Kind}
+use Rattle.address.specs.declared.Kind.the-variants.{Router, Host}
+use Rattle.address.specs.Bits.{root}
+use Rattle.address.specs.Octets.{Effect, write}
+use Rattle.node.specs.Node.{fresh, withCounts, childOf}
+use Rattle.node.specs.declared.Node.{Node}
+use Rattle.forward.specs.Forward.{Answer, upTo, downTo, refused, nextHop}
+use Rattle.header.specs.Header.{writing, reading, refused as refusedReading}
+
+-- the record that stands after some requests, one after the other
+unfoldable pub afterAll : Node → List Kind → Node
+afterAll n [] = n
+afterAll n (kind ∷ kinds) = afterAll (childOf n kind .node) kinds
+
+pub data Row : Type 0 where
+  -- a record, the kinds asked before, the kind asked, and the child's address
+  gives : Node → List Kind → Kind → ℕ → Row
+  -- a record, the kind asked, and the refusal's number
+  refuses : Node → Kind → ℕ → Row
+  -- a record, a destination, and the answer
+  passes : Node → ℕ → Answer → Row
+  -- an address, a buffer, and the octets in front of it
+  writes : ℕ → List ℕ → List ℕ → Row
+  -- a packet, and the refusal's number
+  unread : List ℕ → ℕ → Row
+
+abbrev pub Holds : Row → Type 0
+Holds (gives n before kind address) = (childOf (afterAll n before) kind .refusal ≡ 0) × (childOf (afterAll n before) kind .child .number ≡ address)
+Holds (refuses n kind number) = (childOf n kind .refusal ≡ number) × (childOf n kind .node ≡ n)
+Holds (passes n destination answer) = nextHop n destination ≡ answer
+Holds (writes address buffer octets) = writing address buffer ≡ write octets buffer
+Holds (unread packet number) = reading packet ≡ refusedReading number
+
+abbrev pub AllHold : List Row → Type 0
+AllHold [] = Unit {0}
+AllHold (row ∷ rows) = Holds row × AllHold rows
+
+unfoldable pub table : List Row
+table =
+    -- "P root, counts 0,0, router: 10. P then host: 11. P then router: 110. P then host: 111 (000, section 4)."
+    gives (fresh root) [] Router 0b10
+    ∷ gives (fresh root) (Router ∷ []) Host 0b11
+    ∷ gives (fresh root) (Router ∷ Host ∷ []) Router 0b110
+    ∷ gives (fresh root) (Router ∷ Host ∷ Router ∷ []) Host 0b111
+    -- "P node 10, counts 1,1: router 1010, host 1011."
+    ∷ gives (withCounts 1 1 (fresh 0b10)) [] Router 0b1010
+    ∷ gives (withCounts 1 1 (fresh 0b10)) [] Host 0b1011
+    -- "P root with 62 hosts: the next is 64 ones. P with 63: refusal 3."
+    ∷ gives (withCounts 0 62 (fresh root)) [] Host 0xFFFF_FFFF_FFFF_FFFF
+    ∷ refuses (withCounts 0 63 (fresh root)) Host 3
+    -- "P node 11, destination 110: parent, though 11 is a prefix. P node 1 with counts 2,2, destination 110: child 110. P same node, destination
+    -- 1110: 7."
+    ∷ passes (fresh 0b11) 0b110 (upTo root)
+    ∷ passes (withCounts 2 2 (fresh root)) 0b110 (downTo 0b110)
+    ∷ passes (withCounts 2 2 (fresh root)) 0b1110 (refused 7)
+    -- "P node 10, counts 2,2, destination 101011: child 1010."
+    ∷ passes (withCounts 2 2 (fresh 0b10)) 0b101011 (downTo 0b1010)
+    -- "P address 111110: header F1 81 0F 00 3E."
+    ∷ writes 0b111110 (1 ∷ 2 ∷ 3 ∷ 4 ∷ 5 ∷ 6 ∷ []) (0xF1 ∷ 0x81 ∷ 0x0F ∷ 0x00 ∷ 0x3E ∷ [])
+    -- "P header F1 81 0F 00 00: 9. P header F1 83 0F 00 00 00 3E: 6."
+    ∷ unread (0xF1 ∷ 0x81 ∷ 0x0F ∷ 0x00 ∷ 0x00 ∷ []) 9
+    ∷ unread (0xF1 ∷ 0x83 ∷ 0x0F ∷ 0x00 ∷ 0x00 ∷ 0x00 ∷ 0x3E ∷ []) 6
+    ∷ []
+
+-- every row of the table holds
+abbrev pub KnownValues : Type 0
+KnownValues = AllHold table
