@@ -1,0 +1,3 @@
+-- The laws of the packet crate.
+pub mod PacketHops
+pub mod Promises

@@ -1,0 +1,28 @@
+-- The next hop from a packet, case by case: a bad record, a refused reading, and the answer for the address read. Assumes nothing.
+use mathlib.Core.Path.{_≡_, sym, ap, _∙_}
+use mathlib.Core.Bool.{true, false}
+use mathlib.Core.List.{List}
+use Prim.Native.Nat.{ℕ}
+use borrow.Author.Tests.{eq-eqb, ne-eqb}
+use Rattle.header.specs.Header.{Answer, reading, found, refused as refused-reading}
+use Rattle.header.proofs.Cases.{reading-refused}
+use Rattle.node.specs.Node.{isGood}
+use Rattle.node.specs.declared.Node.{Node}
+use Rattle.forward.specs.Forward.{refused, nextHop}
+use Rattle.packet.specs.Packet.{packetHop}
+
+module _ (n : Node) (p : List ℕ) where
+  pub packetHop-bad : isGood n ≡ false → packetHop n p ≡ refused 1
+  unfolding packetHop
+  packetHop-bad g = rw g
+
+  pub packetHop-refused : isGood n ≡ true → {k : ℕ} → reading p ≡ refused-reading k → packetHop n p ≡ refused k
+  unfolding packetHop
+  packetHop-refused g e =
+      let number = ap (λ (x : Answer). x .refusal) e in
+      rw (g, ne-eqb (reading p .refusal) 0 (λ z. reading-refused p e (sym number ∙ z))) (ap refused number)
+
+  pub packetHop-found : isGood n ≡ true → {d k : ℕ} → reading p ≡ found d k → packetHop n p ≡ nextHop n d
+  unfolding packetHop
+  packetHop-found g e =
+      rw (g, eq-eqb (reading p .refusal) 0 (ap (λ (x : Answer). x .refusal) e)) (ap (λ (x : Answer). nextHop n (x .address)) e)

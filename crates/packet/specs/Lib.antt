@@ -1,0 +1,2 @@
+-- What the packet crate promises, in definitions alone.
+pub mod Packet

@@ -1,0 +1,239 @@
+-- Every grown tree is sound. The bare root is, and a request keeps a sound tree sound: refused or asked of nobody it changes nothing, and a
+-- child given is the one step that the count raised makes room for, so it is new, hangs from the node asked, and has no children itself.
+use Prim.Native.Nat.{ℕ, suc, _+_, _<_, _≤_}
+use mathlib.Core.Path.{_≡_, refl, sym, ap, _∙_, subst}
+use mathlib.Core.Bool.{true}
+use mathlib.Core.Logic.{_⊎_, inl, inr, ⊎-elim}
+use mathlib.Core.List.{List, [], _∷_, _++_, List·Memᴰ·not-nil}
+use native.Mathlib.Decide.{ℕ-discrete}
+use native.Mathlib.Omega.{arith}
+use lib.ListN.{length}
+use borrow.Author.Tests.{ne-eqb}
+use Rattle.address.specs.declared.Kind.{Kind}
+use Rattle.address.specs.declared.Kind.the-variants.{Router, Host}
+use Rattle.address.specs.Bits.{number, root}
+use Rattle.address.specs.Steps.{Step, child, steps}
+use Rattle.address.specs.Address.{depth, above, parent}
+use Rattle.address.specs.Reading.{IsAddress}
+use Rattle.address.proofs.Steps.{addressOf-steps, depth-range}
+use Rattle.address.proofs.Prefixes.{steps-injective}
+use Rattle.node.specs.Node.{addressIn, fresh, count, raised, isGood, childBits, refuse, childOf}
+use Rattle.node.specs.declared.Node.{Node}
+use Rattle.node.proofs.Children.{addressIn-fresh, count-fresh, addressIn-raised, count-raised, isGood-fresh}
+use Rattle.node.proofs.Children.{MayGive, childOf-cases, childOf-given, isGood-raised, steps-child, address-child, parent-child}
+use Rattle.tree.specs.Tree.{Request, request, Tree, bareRoot, Record, standing, absent, recordOf, replaced, withChild}
+use Rattle.tree.specs.Tree.{answered, askedOf, ask, grow, grown, addresses, InTree}
+use Rattle.tree.proofs.Sound.{Sound}
+use Rattle.tree.proofs.Trees.{inTree-recordOf, addressIn-recordOf, replaced-recordOf, addresses-replaced, recordOf-replaced}
+use Rattle.tree.proofs.Trees.{recordOf-replaced-other, inTree-left, inTree-right, inTree-append, inTree-single, inTree-only, recordOf-left}
+use Rattle.tree.proofs.Trees.{recordOf-right, recordOf-single, allDiffer-append}
+
+-- ---- steps, counts and records
+
+address-root : IsAddress root
+address-root = record { some = omega arith; fits = omega arith }
+
+-- what has a step is not the root
+step-root : {d : ℕ} {s : Step} {up : List Step} → steps d ≡ s ∷ up → d ≡ root → ⊥
+unfolding depth
+step-root {d} e z = omega (arith, ap length e, ap depth z, depth-range .least)
+
+parent-step : (d : ℕ) {x : ℕ} {s : Step} → IsAddress x → steps d ≡ s ∷ steps x → parent d ≡ x
+unfolding parent above
+parent-step d a e = rw e (addressOf-steps a)
+
+count-le-raised : (kind other : Kind) (n : Node) → count other n ≤ count other (raised kind n)
+unfolding count raised
+count-le-raised Router Router n = omega arith
+count-le-raised Router Host n = omega arith
+count-le-raised Host Router n = omega arith
+count-le-raised Host Host n = omega arith
+
+last-or-less : (kind : Kind) (j i : ℕ) → j < i + 1 → (j < i) ⊎ (child kind j ≡ child kind i)
+last-or-less kind j i l = go (ℕ-discrete j i)
+  where
+    go : Dec (j ≡ i) → (j < i) ⊎ (child kind j ≡ child kind i)
+    go (yes e) = inr (ap (λ (k : ℕ). child kind k) e)
+    go (no ne) = inl (omega arith)
+
+-- a child that a count raised speaks of is one that the old count spoke of, or the one given
+lt-raised : (kind other : Kind) (n : Node) (j : ℕ) → j < count other (raised kind n)
+    → (j < count other n) ⊎ (child other j ≡ child kind (count kind n))
+unfolding count raised
+lt-raised Router Router n j l = last-or-less Router j (n .routers) l
+lt-raised Router Host n j l = inl l
+lt-raised Host Router n j l = inl l
+lt-raised Host Host n j l = last-or-less Host j (n .hosts) l
+
+-- ---- the bare root
+
+pub inTree-bareRoot : (a : ℕ) → InTree a bareRoot → a ≡ root
+unfolding bareRoot
+inTree-bareRoot a i = sym (inTree-only (fresh root) i) ∙ addressIn-fresh root
+
+pub recordOf-bareRoot : (a : ℕ) (n : Node) → recordOf a bareRoot ≡ standing n → n ≡ fresh root
+unfolding bareRoot
+recordOf-bareRoot a n e = cc (recordOf-single (fresh root) (addressIn-fresh root ∙ sym (inTree-bareRoot a (inTree-recordOf a n bareRoot e))))
+
+pub sound-bareRoot : Sound bareRoot
+unfolding bareRoot addresses
+sound-bareRoot = record {
+  rooted = inTree-single (fresh root) (addressIn-fresh root);
+  differ = (List·Memᴰ·not-nil, tt);
+  address = λ a i. subst IsAddress (sym (inTree-bareRoot a i)) address-root;
+  good = λ a n e. rw (recordOf-bareRoot a n e) (isGood-fresh address-root);
+  parents = λ a i ne. absurd (ne (inTree-bareRoot a i));
+  given = λ a n kind i e l. absurd (omega (arith, ap (count kind) (recordOf-bareRoot a n e), count-fresh kind root));
+  counted = λ a d n kind i e inD s. absurd (step-root s (inTree-bareRoot d inD));
+}
+
+-- ---- one child more
+
+module _ (t : Tree) (s : Sound t) (a : ℕ) (n : Node) (stands : recordOf a t ≡ standing n) (kind : Kind) (may : MayGive n kind) where
+  -- the child's address, the record handed back and the tree after it
+  abbrev new : ℕ
+  new = number (childBits n kind)
+
+  abbrev handed : Node
+  handed = raised kind n
+
+  abbrev after : Tree
+  after = replaced a handed t ++ (fresh new ∷ [])
+
+  asked : InTree a t
+  asked = inTree-recordOf a n t stands
+
+  own : addressIn n ≡ a
+  own = addressIn-recordOf a n t stands
+
+  same : addressIn handed ≡ a
+  same = addressIn-raised kind n ∙ own
+
+  address-own : IsAddress (addressIn n)
+  address-own = rw own (s .address a asked)
+
+  address-new : IsAddress new
+  address-new = address-child may address-own
+
+  steps-new : steps new ≡ child kind (count kind n) ∷ steps a
+  steps-new = steps-child may address-own ∙ ap (λ (k : ℕ). child kind (count kind n) ∷ steps k) own
+
+  parent-new : parent new ≡ a
+  parent-new = parent-child may address-own ∙ own
+
+  is-new : InTree new t → ⊥
+  is-new i = omega (arith, s .counted a new n kind (count kind n) stands i steps-new)
+
+  -- the nodes after it
+
+  old : (b : ℕ) → InTree b t → InTree b after
+  old b i = inTree-left (replaced a handed t) (fresh new ∷ []) (rw (addresses-replaced handed same t) i)
+
+  born : InTree new after
+  born = inTree-right (replaced a handed t) (fresh new ∷ []) (inTree-single (fresh new) (addressIn-fresh new))
+
+  nodes : (b : ℕ) → InTree b after → InTree b t ⊎ (b ≡ new)
+  nodes b i =
+      ⊎-elim (λ i. inl (rw (addresses-replaced handed same t) at i)) (λ i. inr (sym (inTree-only (fresh new) i) ∙ addressIn-fresh new))
+      (inTree-append (replaced a handed t) (fresh new ∷ []) i)
+
+  -- the records after it: the one handed back, the child's, and those of the others, as they were
+
+  kept : (b : ℕ) → InTree b t → recordOf b after ≡ recordOf b (replaced a handed t)
+  kept b i = recordOf-left (replaced a handed t) (fresh new ∷ []) (rw (addresses-replaced handed same t) i)
+
+  recordOf-asked : recordOf a after ≡ standing handed
+  recordOf-asked = kept a asked ∙ recordOf-replaced handed same t asked
+
+  recordOf-new : recordOf new after ≡ standing (fresh new)
+  recordOf-new =
+      recordOf-right (replaced a handed t) (fresh new ∷ []) (λ i. is-new (rw (addresses-replaced handed same t) at i))
+      ∙ recordOf-single (fresh new) (addressIn-fresh new)
+
+  data Stands (b : ℕ) (m : Node) : Type 0 where
+    isAsked : b ≡ a → m ≡ handed → Stands b m
+    isNew : b ≡ new → m ≡ fresh new → Stands b m
+    isOther : (a ≡ b → ⊥) → recordOf b t ≡ standing m → Stands b m
+
+  records : (b : ℕ) (m : Node) → recordOf b after ≡ standing m → Stands b m
+  records b m e = ⊎-elim (λ i. there i (ℕ-discrete a b)) (λ q. isNew q (cc recordOf-new)) (nodes b (inTree-recordOf b m after e))
+    where
+      there : InTree b t → Dec (a ≡ b) → Stands b m
+      there i (yes q) = isAsked (sym q) (cc recordOf-asked)
+      there i (no ne) = isOther ne (sym (kept b i ∙ recordOf-replaced-other handed same ne t) ∙ e)
+
+  given-after : (b : ℕ) (m : Node) (other : Kind) (j : ℕ) → Stands b m → j < count other m
+      → (d : ℕ) × InTree d after × (steps d ≡ child other j ∷ steps b)
+  given-after b m other j (isAsked q e) l =
+      ⊎-elim
+      (λ less. let d = s .given a n other j stands less in (d .0, old (d .0) (d .1), d .2 ∙ (cc)))
+      (λ one. (new, born, cc steps-new))
+      (lt-raised kind other n j (rw e at l))
+  given-after b m other j (isNew q e) l = absurd (omega (arith, ap (count other) e, count-fresh other new))
+  given-after b m other j (isOther ne e) l = let d = s .given b m other j e l in (d .0, old (d .0) (d .1), d .2)
+
+  counted-after : (b d : ℕ) (m : Node) (other : Kind) (j : ℕ) → Stands b m → InTree d t ⊎ (d ≡ new) → steps d ≡ child other j ∷ steps b
+      → j < count other m
+  counted-after b d m other j (isAsked q e) (inl i) below =
+      omega (arith, ap (count other) e, s .counted a d n other j stands i (below ∙ (cc)), count-le-raised kind other n)
+  counted-after b d m other j (isAsked q e) (inr z) below =
+      let index : j ≡ count kind n = cc steps-new in
+      let raise : count other m ≡ count kind handed = cc steps-new in
+      omega (arith, count-raised kind n)
+  counted-after b d m other j (isNew q e) (inl i) below =
+      let below-new : steps d ≡ child other j ∷ steps new = cc in
+      absurd (is-new (rw (parent-step d address-new below-new) at (s .parents d i (step-root below))))
+  counted-after b d m other j (isNew q e) (inr z) below =
+      let level : steps d ≡ steps b = cc in
+      absurd (omega (arith, ap length level, ap length below))
+  counted-after b d m other j (isOther ne e) (inl i) below = s .counted b d m other j e i below
+  counted-after b d m other j (isOther ne e) (inr z) below =
+      absurd (ne (steps-injective (s .address a asked) (s .address b (inTree-recordOf b m t e)) (cc steps-new)))
+
+  good-after : (b : ℕ) (m : Node) → Stands b m → isGood m ≡ true
+  good-after b m (isAsked q e) = rw e (isGood-raised may)
+  good-after b m (isNew q e) = rw e (isGood-fresh address-new)
+  good-after b m (isOther ne e) = s .good b m e
+
+  sound-given : Sound after
+  sound-given = record {
+    rooted = old root (s .rooted);
+    differ = allDiffer-append (replaced a handed t) (fresh new) (rw (addresses-replaced handed same t) (s .differ))
+        (λ i. is-new (rw (addressIn-fresh new, addresses-replaced handed same t) at i));
+    address = λ b i. ⊎-elim (s .address b) (λ q. rw q address-new) (nodes b i);
+    good = λ b m e. good-after b m (records b m e);
+    parents = λ b i ne. ⊎-elim (λ i. old (parent b) (s .parents b i ne)) (λ (q : b ≡ new). old (parent b) (rw (q, parent-new) asked)) (nodes b i);
+    given = λ b m other j e l. given-after b m other j (records b m e) l;
+    counted = λ b d m other j e i below. counted-after b d m other j (records b m e) (nodes d i) below;
+  }
+
+-- ---- requests
+
+-- a refused one changes nothing
+pub answered-refused : (t : Tree) (a : ℕ) (n : Node) → recordOf a t ≡ standing n → (k : ℕ) → answered a (refuse (suc k) n) t .tree ≡ t
+unfolding answered withChild refuse
+answered-refused t a n stands k = rw (ne-eqb (suc k) 0 (λ z. omega arith)) (replaced-recordOf a n t stands)
+
+sound-answered : (t : Tree) → Sound t → (a : ℕ) (n : Node) → recordOf a t ≡ standing n → (kind : Kind)
+    → Sound (answered a (childOf n kind) t .tree)
+sound-answered t s a n stands kind =
+    ⊎-elim (λ (may : MayGive n kind). rw (childOf-given may) (unfold answered withChild in sound-given t s a n stands kind may))
+    (λ (refusal : (k : ℕ) × (childOf n kind ≡ refuse (suc k) n)). rw (refusal .1, answered-refused t a n stands (refusal .0)) s)
+    (childOf-cases n kind)
+
+pub sound-ask : (t : Tree) (r : Request) → Sound t → Sound (ask childOf t r .tree)
+unfolding ask
+sound-ask t (request a kind) s = go (recordOf a t) refl
+  where
+    go : (x : Record) → recordOf a t ≡ x → Sound (askedOf childOf x a kind t .tree)
+    go (standing n) e = unfold askedOf in sound-answered t s a n e kind
+    go absent e = unfold askedOf in s
+
+pub sound-grow : (t : Tree) (rs : List Request) → Sound t → Sound (grow childOf t rs .tree)
+unfolding grow
+sound-grow t [] s = s
+sound-grow t (r ∷ rs) s = sound-grow (ask childOf t r .tree) rs (sound-ask t r s)
+
+pub sound-grown : (rs : List Request) → Sound (grown childOf rs)
+unfolding grown
+sound-grown rs = sound-grow bareRoot rs sound-bareRoot

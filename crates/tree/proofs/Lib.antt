@@ -1,0 +1,13 @@
+-- Demand 3's proof, in two halves: every grown tree is sound, and in every sound tree packets go by the path. Beside it, the wrong rules that
+-- the claim refutes, and the ties to the functions' contracts.
+pub mod Sound
+pub mod Trees
+pub mod Growth
+pub mod Paths
+pub mod Walks
+pub mod Ways
+pub mod Forwarding
+pub mod Theorem
+pub mod WrongChildren
+pub mod WrongHops
+pub mod Ties

@@ -1,0 +1,194 @@
+-- The wrong rules for a child are refuted, each through the clause for which document 01 excludes it, at a tree that is computed. Under the
+-- last two every tree is the bare root, of which demand 3 is true: what excludes them is the promise, from which they differ at that root.
+use Prim.Native.Nat.{ℕ, zero, suc, _+_, _≤_}
+use mathlib.Core.Path.{_≡_, refl, ap, _∙_}
+use mathlib.Core.List.{List, [], _∷_, _++_, List·Memᴰ, List·Memᴰ·head, List·Memᴰ·tail}
+use native.Mathlib.Nat.{add-zero}
+use native.Mathlib.Omega.{arith}
+use lib.ListN.{replicate}
+use borrow.Author.Tests.{le-leb}
+use Rattle.address.specs.Bits.{bits, bitsIn, lastBit, digit, number, numberFrom, root}
+use Rattle.address.specs.Steps.{stepBits, lastOf}
+use Rattle.address.specs.Address.{bitLength, isHost, endsInOne}
+use Rattle.address.specs.Octets.{octets, value, joined}
+use Rattle.address.specs.Search.{lookedAt, isPrefix, sameBit, kindLooked, indexLooked}
+use Rattle.address.specs.declared.Kind.{Kind}
+use Rattle.address.specs.declared.Kind.the-variants.{Router, Host}
+use Rattle.header.specs.Header.{header, size, reading, startFault, inOrder, sizeTold, addressFault, sizeAllowed, zeroFault, addressOctets}
+use Rattle.node.specs.Node.{addressAt, fresh, count, raised, isGood, childBits, refuse, childOf}
+use Rattle.node.specs.declared.Node.{Node}
+use Rattle.node.specs.declared.Given.{Given}
+use Rattle.forward.specs.Forward.{nextHop, rules, toward}
+use Rattle.packet.specs.Packet.{packetHop}
+use Rattle.tree.specs.Tree.{Request, request, ChildRule, Tree, bareRoot, Record, standing, absent, recordOf, replaced, withChild}
+use Rattle.tree.specs.Tree.{answered, askedOf, ask, grow, grown, addresses, InTree}
+use Rattle.tree.specs.Way.{refusal, fate, fateBy, fateOf, deliveredAt, stoppedAt, lostAt, Way, stopped, lost, IsPacket}
+use Rattle.tree.specs.Demand3.{Demand3}
+use Rattle.tree.specs.WrongChildren.{sameChild, oneCount, limitOnParent, refusesAll, rootAsHost}
+use Rattle.tree.proofs.Trees.{inTree-recordOf}
+use Rattle.tree.proofs.Growth.{recordOf-bareRoot, answered-refused}
+
+-- ---- what is opened to compute
+
+forBits : Unit {0}
+unfolding bits bitsIn lastBit bitLength number numberFrom digit stepBits lastOf isHost endsInOne
+forBits = tt
+
+forTrees : Unit {0}
+unfolding forBits grown grow ask askedOf answered withChild replaced recordOf bareRoot addresses fresh count raised isGood childBits refuse
+forTrees = tt
+
+forPackets : Unit {0}
+unfolding forBits header size octets reading startFault inOrder sizeTold addressFault sizeAllowed zeroFault addressOctets value joined
+forPackets = tt
+
+forHops : Unit {0}
+unfolding forPackets packetHop nextHop rules toward lookedAt isPrefix sameBit kindLooked indexLooked isGood count fate fateBy fateOf
+forHops = tt
+
+-- ---- every child the same address: two routers asked of the root are both 10
+
+pub same-child-refuted : ((rs : List Request) → Demand3 sameChild packetHop rs) → ⊥
+unfolding forTrees sameChild childOf
+same-child-refuted h = h (request root Router ∷ request root Router ∷ []) .differ .1 .0 (List·Memᴰ·head refl)
+
+-- ---- one count: a router and a host asked of the root are 10 and 111, and its count of routers is 2, so it passes a packet for 110 to nobody
+
+abbrev routerThenHost : List Request
+routerThenHost = request root Router ∷ request root Host ∷ []
+
+packet-110 : IsPacket (header 0b110) 0b110
+unfolding forPackets
+packet-110 = record {
+  octets = (omega arith, (omega arith, (omega arith, (omega arith, (omega arith, tt)))));
+  place = 5;
+  reads = refl;
+}
+
+other-than-110 : List·Memᴰ {A = ℕ} 0b110 (0b1 ∷ 0b10 ∷ 0b111 ∷ []) → ⊥
+other-than-110 (List·Memᴰ·head e) = omega arith
+other-than-110 (List·Memᴰ·tail (List·Memᴰ·head e)) = omega arith
+other-than-110 (List·Memᴰ·tail (List·Memᴰ·tail (List·Memᴰ·head e))) = omega arith
+
+one-count-absent : InTree 0b110 (grown oneCount routerThenHost) → ⊥
+unfolding forTrees oneCount
+one-count-absent i = other-than-110 i
+
+one-count-there : InTree root (grown oneCount routerThenHost)
+unfolding forTrees oneCount
+one-count-there = List·Memᴰ·head refl
+
+one-count-way : Way packetHop (grown oneCount routerThenHost) (header 0b110) root (root ∷ []) (lostAt root)
+unfolding forTrees forHops oneCount
+one-count-way = lost {x = 0b110} {n = record { address = addressAt root; routers = 2; hosts = 0 }} refl refl one-count-absent
+
+pub one-count-refuted : ((rs : List Request) → Demand3 oneCount packetHop rs) → ⊥
+one-count-refuted h =
+    let stops = h routerThenHost .absence root 0b110 (header 0b110) one-count-there one-count-absent packet-110 in
+    let e : lostAt root ≡ stoppedAt 7 (stops .0) = stops .1 .theWay .only (root ∷ []) (lostAt root) one-count-way .1 in
+    let z : _≡_ {A = ℕ} 0 1 = cc in
+    omega arith
+
+-- ---- the limit on the parent: after 64 hosts the root's record is bad, so it refuses a packet for itself
+
+abbrev hosts64 : List Request
+hosts64 = replicate 64 (request root Host)
+
+-- the root with so many hosts
+abbrev rootWith : ℕ → Node
+rootWith h = record { address = addressAt root; routers = 0; hosts = h }
+
+-- the record of the host that it then gives
+abbrev nextHost : ℕ → Node
+nextHost h = fresh (number (childBits (rootWith h) Host))
+
+ask-host : (h : ℕ) (t : Tree) → h ≤ 63 → ask limitOnParent (rootWith h ∷ t) (request root Host) .tree ≡ rootWith (h + 1) ∷ (t ++ (nextHost h ∷ []))
+unfolding forTrees limitOnParent
+ask-host h t l = rw (le-leb h 63 l)
+
+recordOf-hosts : (k h : ℕ) (t : Tree) → h + k ≤ 64
+    → recordOf root (grow limitOnParent (rootWith h ∷ t) (replicate k (request root Host)) .tree) ≡ standing (rootWith (h + k))
+unfolding grow recordOf
+recordOf-hosts zero h t l = rw (add-zero h)
+recordOf-hosts (suc k) h t l =
+    let more : h + 1 + k ≡ h + suc k = omega arith in
+    ap (λ (u : Tree). recordOf root (grow limitOnParent u (replicate k (request root Host)) .tree)) (ask-host h t (omega arith))
+    ∙ recordOf-hosts k (h + 1) (t ++ (nextHost h ∷ [])) (omega arith)
+    ∙ ap (λ (i : ℕ). standing (rootWith i)) more
+
+recordOf-hosts64 : recordOf root (grown limitOnParent hosts64) ≡ standing (rootWith 64)
+unfolding grown bareRoot fresh
+recordOf-hosts64 = recordOf-hosts 64 0 [] (omega arith)
+
+fate-hosts64 : fate (packetHop (rootWith 64) (header root)) ≡ refusal 1
+unfolding forHops
+fate-hosts64 = refl
+
+packet-root : IsPacket (header root) root
+unfolding forPackets
+packet-root = record {
+  octets = (omega arith, (omega arith, (omega arith, (omega arith, (omega arith, tt)))));
+  place = 5;
+  reads = refl;
+}
+
+pub limit-on-parent-refuted : ((rs : List Request) → Demand3 limitOnParent packetHop rs) → ⊥
+limit-on-parent-refuted h =
+    let there = inTree-recordOf root (rootWith 64) (grown limitOnParent hosts64) recordOf-hosts64 in
+    let arrives = h hosts64 .arrival root root (header root) there there packet-root in
+    let e : stoppedAt 1 root ≡ deliveredAt root =
+    arrives .theWay .only (root ∷ []) (stoppedAt 1 root) (stopped recordOf-hosts64 fate-hosts64) .1 in
+    let z : _≡_ {A = ℕ} 0 1 = cc in
+    omega arith
+
+-- ---- whatever refuses at the bare root
+
+module _ (rule : ChildRule) (k : ℕ) (refuses : (kind : Kind) → rule (fresh root) kind ≡ refuse (suc k) (fresh root)) where
+  ask-refusing : (r : Request) → ask rule bareRoot r .tree ≡ bareRoot
+  unfolding ask askedOf
+  ask-refusing (request a kind) = go (recordOf a bareRoot) refl
+    where
+      go : (x : Record) → recordOf a bareRoot ≡ x → askedOf rule x a kind bareRoot .tree ≡ bareRoot
+      go (standing n) e =
+          let refused : rule n kind ≡ refuse (suc k) n = cc (recordOf-bareRoot a n e, refuses kind) in
+          rw refused (answered-refused bareRoot a n e k)
+      go absent e = refl
+
+  grown-refusing : (rs : List Request) → grown rule rs ≡ bareRoot
+  unfolding grown grow
+  grown-refusing [] = refl
+  grown-refusing (r ∷ rs) = ap (λ (t : Tree). grow rule t rs .tree) (ask-refusing r) ∙ grown-refusing rs
+
+  differs : childOf (fresh root) Router .refusal ≡ 0 → rule (fresh root) Router ≡ childOf (fresh root) Router → ⊥
+  unfolding refuse
+  differs given e = let f : suc k ≡ 0 = cc (ap (λ (g : Given). g .refusal) (refuses Router)) in omega arith
+
+given-root : childOf (fresh root) Router .refusal ≡ 0
+unfolding forTrees childOf
+given-root = refl
+
+refusesAll-root : (kind : Kind) → refusesAll (fresh root) kind ≡ refuse 3 (fresh root)
+unfolding refusesAll
+refusesAll-root kind = refl
+
+rootAsHost-root : (kind : Kind) → rootAsHost (fresh root) kind ≡ refuse 2 (fresh root)
+unfolding forTrees rootAsHost
+rootAsHost-root kind = refl
+
+pub grown-refusesAll : (rs : List Request) → grown refusesAll rs ≡ bareRoot
+grown-refusesAll = grown-refusing refusesAll 2 refusesAll-root
+
+pub grown-rootAsHost : (rs : List Request) → grown rootAsHost rs ≡ bareRoot
+grown-rootAsHost = grown-refusing rootAsHost 1 rootAsHost-root
+
+pub refuses-all-differs : refusesAll (fresh root) Router ≡ childOf (fresh root) Router → ⊥
+refuses-all-differs = differs refusesAll 2 refusesAll-root given-root
+
+pub root-as-host-differs : rootAsHost (fresh root) Router ≡ childOf (fresh root) Router → ⊥
+root-as-host-differs = differs rootAsHost 1 rootAsHost-root given-root
+
+pub refuses-all-refuted : refusesAll ≡ childOf → ⊥
+refuses-all-refuted e = refuses-all-differs (ap (λ (rule : ChildRule). rule (fresh root) Router) e)
+
+pub root-as-host-refuted : rootAsHost ≡ childOf → ⊥
+root-as-host-refuted e = root-as-host-differs (ap (λ (rule : ChildRule). rule (fresh root) Router) e)

@@ -1,0 +1,59 @@
+-- The way of a packet through a tree, for any rule for the next hop from octets. "Each node it meets gives the next-hop answer for it with
+-- that node's record, and, as every link works, the node named gets the same octets. Its way is the list of the nodes it meets, the start
+-- first. The way ends with a delivery, with a refusal, or where the node named isn't in the tree."
+use Prim.Native.Nat.{ℕ, zero, suc}
+use mathlib.Core.Path.{_≡_}
+use mathlib.Core.List.{List, [], _∷_}
+use Rattle.address.specs.Octets.{AreOctets}
+use Rattle.header.specs.Header.{reading, found}
+use Rattle.node.specs.declared.Node.{Node}
+use Rattle.forward.specs.Forward.{Action, delivers, toParent, toChild, stops, Answer}
+use Rattle.tree.specs.Tree.{Tree, standing, recordOf, InTree}
+
+-- a rule for the next hop: what a record answers for some octets
+abbrev pub HopRule : Type 0
+HopRule = Node → List ℕ → Answer
+
+-- what an answer does to a packet
+pub data Fate : Type 0 where
+  delivery : Fate
+  refusal : ℕ → Fate
+  passed : ℕ → Fate
+
+unfoldable pub fateOf : Action → ℕ → Fate
+fateOf delivers x = delivery
+fateOf toParent x = passed x
+fateOf toChild x = passed x
+fateOf stops x = refusal 0
+
+unfoldable pub fateBy : ℕ → Action → ℕ → Fate
+fateBy zero action x = fateOf action x
+fateBy (suc n) action x = refusal (suc n)
+
+unfoldable pub fate : Answer → Fate
+fate r = fateBy (r .refusal) (r .action) (r .node)
+
+-- how and where a way ends
+pub data End : Type 0 where
+  deliveredAt : ℕ → End
+  stoppedAt : ℕ → ℕ → End
+  lostAt : ℕ → End
+
+-- what becomes of the octets p at a node, with its record as it stands
+pub data Way (hop : HopRule) (t : Tree) (p : List ℕ) : ℕ → List ℕ → End → Type 0 where
+  delivered : {a : ℕ} {n : Node} → recordOf a t ≡ standing n → fate (hop n p) ≡ delivery → Way hop t p a (a ∷ []) (deliveredAt a)
+  stopped : {a k : ℕ} {n : Node} → recordOf a t ≡ standing n → fate (hop n p) ≡ refusal k → Way hop t p a (a ∷ []) (stoppedAt k a)
+  lost : {a x : ℕ} {n : Node} → recordOf a t ≡ standing n → fate (hop n p) ≡ passed x → (InTree x t → ⊥) → Way hop t p a (a ∷ []) (lostAt a)
+  onward : {a x : ℕ} {n : Node} {w : List ℕ} {e : End} → recordOf a t ≡ standing n → fate (hop n p) ≡ passed x → InTree x t → Way hop t p x w e
+      → Way hop t p a (a ∷ w) e
+
+-- the one way of the octets from a node
+pub record TheWay (hop : HopRule) (t : Tree) (p : List ℕ) (a : ℕ) (w : List ℕ) (e : End) : Type 0 where
+  pub way : Way hop t p a w e
+  pub only : (v : List ℕ) (f : End) → Way hop t p a v f → (v ≡ w) × (f ≡ e)
+
+-- "A packet is here any octets that the reading accepts, and it is for the address read"
+pub record IsPacket (p : List ℕ) (d : ℕ) : Type 0 where
+  pub octets : AreOctets p
+  pub place : ℕ
+  pub reads : reading p ≡ found d place
