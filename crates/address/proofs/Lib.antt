@@ -7,3 +7,4 @@ pub mod SearchLaws
 pub mod Prefixes
 pub mod OctetLaws
 pub mod SameLaws
+pub mod Promises

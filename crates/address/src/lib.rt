@@ -51,14 +51,14 @@ impl Address {
         Made::Valid(Address::of(number))
     }
 
-    // The constants are those of the specification.
-    pub fn longest() -> u32
+    // These two tie the constants, which have no name in the definitions, to the specification's.
+    fn longest() -> u32
         ensures { λ r. ⌜ r ≡ longest ⌝ }
     {
         Address::LONGEST
     }
 
-    pub fn root() -> Address
+    fn root() -> Address
         ensures { λ r. ⌜ r .number ≡ root ⌝ }
     {
         Address::ROOT

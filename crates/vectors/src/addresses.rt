@@ -36,28 +36,47 @@ fn make(number: u64, refusal: u8) {
     }
 }
 
-pub fn run() {
+fn lengths() {
     // 003, 7.1: "Len(0x00010010) = 5", which document 01 reads as binary digits
     length(0b00010010, 5);
     length(1, 1);
     length(0xFFFF_FFFF_FFFF_FFFF, 64);
-    // "the address is any number but zero"
+}
+
+// "the address is any number but zero"
+fn numbers() {
     make(0, 9);
     make(1, 0);
     make(0xFFFF_FFFF_FFFF_FFFF, 0);
-    // "A router ends in 0. A host ends in 1 and is longer than one bit. The root ends in 1 and is no host."
+}
+
+// "A router ends in 0. A host ends in 1 and is longer than one bit. The root ends in 1 and is no host."
+fn hosts() {
     host(1, false);
     host(0b10, false);
     host(0b11, true);
     host(0b1011, true);
-    // 003, 14: "1 -> 10 -> 1010 -> 101011"
+}
+
+// 003, 14: "1 -> 10 -> 1010 -> 101011"; the parent of a host drops all its ones
+fn parents() {
     parent(0b101011, 0b1010);
     parent(0b1010, 0b10);
     parent(0b10, 1);
+    parent(0b1111, 1);
+    parent(0b10011, 0b100);
+}
+
+fn depths() {
     depth(0b101011, 3);
     depth(1, 0);
     depth(0x8000_0000_0000_0000, 63);
-    // the parent of a host drops all its ones
-    parent(0b1111, 1);
-    parent(0b10011, 0b100);
+}
+
+pub(crate) fn run() {
+    lengths();
+    numbers();
+    hosts();
+    parents();
+    depths();
 }

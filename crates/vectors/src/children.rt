@@ -95,30 +95,42 @@ fn refused(address: u64, routers: u8, hosts: u8, kind: Kind, refusal: u8) {
     child(address, routers, hosts, kind, 0, refusal, routers, hosts);
 }
 
-fn known() {
-    // "P root, counts 0,0, router: 10. P then host: 11. P then router: 110. P then host: 111 (000, section 4).": with node 10 below, the eight
-    // steps of 003, 6.1 and of 000, 4
+// "P root, counts 0,0, router: 10. P then host: 11. P then router: 110. P then host: 111 (000, section 4).": with node 10 below, the eight steps
+// of 003, 6.1 and of 000, 4
+fn of_root() {
     router(1, 0, 0, 0b10, 1);
     host(1, 1, 0, 0b11, 1);
     router(1, 1, 1, 0b110, 2);
     host(1, 2, 1, 0b111, 2);
+}
+
+// "P node 10, counts 1,1: router 1010, host 1011."
+fn of_router() {
     router(0b10, 0, 0, 0b100, 1);
     host(0b10, 1, 0, 0b101, 1);
-    // "P node 10, counts 1,1: router 1010, host 1011."
     router(0b10, 1, 1, 0b1010, 2);
     host(0b10, 1, 1, 0b1011, 2);
     host(0b10, 2, 1, 0b1011, 2);
-    // "P root with 62 hosts: the next is 64 ones. P with 63: refusal 3."
+}
+
+// "P root with 62 hosts: the next is 64 ones. P with 63: refusal 3."; "A 64-bit router: 3 at once."
+fn longest() {
     host(1, 0, 62, 0xFFFF_FFFF_FFFF_FFFF, 63);
     refused(1, 0, 63, Kind::Host, 3);
-    // "A 63-bit router: one router and one host, both of 64 bits, then 3. A 64-bit router: 3 at once."
+    refused(0x8000_0000_0000_0000, 0, 0, Kind::Router, 3);
+    refused(0x8000_0000_0000_0000, 0, 0, Kind::Host, 3);
+}
+
+// "A 63-bit router: one router and one host, both of 64 bits, then 3."
+fn of_63_bits() {
     router(0x4000_0000_0000_0000, 0, 0, 0x8000_0000_0000_0000, 1);
     host(0x4000_0000_0000_0000, 1, 0, 0x8000_0000_0000_0001, 1);
     refused(0x4000_0000_0000_0000, 1, 1, Kind::Router, 3);
     refused(0x4000_0000_0000_0000, 1, 1, Kind::Host, 3);
-    refused(0x8000_0000_0000_0000, 0, 0, Kind::Router, 3);
-    refused(0x8000_0000_0000_0000, 0, 0, Kind::Host, 3);
-    // "Host 11 asked: 2. Host 11 with a count of 1: refusal 1."
+}
+
+// "Host 11 asked: 2. Host 11 with a count of 1: refusal 1."
+fn of_host() {
     refused(0b11, 0, 0, Kind::Router, 2);
     refused(0b11, 0, 1, Kind::Router, 1);
 }
@@ -142,8 +154,12 @@ fn corners() {
     refused(0, 0, 0, Kind::Router, 1);
 }
 
-pub fn run() {
-    known();
+pub(crate) fn run() {
+    of_root();
+    of_router();
+    longest();
+    of_63_bits();
+    of_host();
     drafts();
     corners();
 }

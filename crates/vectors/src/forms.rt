@@ -51,36 +51,49 @@ fn back(prefix: &[u8], form: &[u8], refusal: u8, address: u64) {
     }
 }
 
-pub fn run() {
-    // 003, 8.3: "2001:db8::3E"
+// With the prefix 2001:db8::/64 of 003, 8.3.
+fn written(address: u64, buffer: &mut [u8], refusal: u8, expected: &[u8]) {
     out(
         b"\x20\x01\x0D\xB8\x00\x00\x00\x00",
+        address,
+        buffer,
+        refusal,
+        expected,
+    );
+}
+
+fn read(form: &[u8], refusal: u8, address: u64) {
+    back(b"\x20\x01\x0D\xB8\x00\x00\x00\x00", form, refusal, address);
+}
+
+// 003, 8.3: "2001:db8::3E"; 003, 14: "the address 2001:db8::2B/64 .. which in binary form is b101011"
+fn drafts() {
+    written(
         0b111110,
         &mut [0xAA; 20],
         0,
         b"\x20\x01\x0D\xB8\x00\x00\x00\x00\x00\x00\x00\x00\x00\x00\x00\x3E",
     );
-    back(
-        b"\x20\x01\x0D\xB8\x00\x00\x00\x00",
+    read(
         b"\x20\x01\x0D\xB8\x00\x00\x00\x00\x00\x00\x00\x00\x00\x00\x00\x3E",
         0,
         0b111110,
     );
-    // 003, 14: "the address 2001:db8::2B/64 .. which in binary form is b101011"
-    back(
-        b"\x20\x01\x0D\xB8\x00\x00\x00\x00",
-        b"\x20\x01\x0D\xB8\x00\x00\x00\x00\x00\x00\x00\x00\x00\x00\x00\x2B",
-        0,
-        0b101011,
-    );
-    out(
-        b"\x20\x01\x0D\xB8\x00\x00\x00\x00",
+    written(
         0b101011,
         &mut [0xAA; 16],
         0,
         b"\x20\x01\x0D\xB8\x00\x00\x00\x00\x00\x00\x00\x00\x00\x00\x00\x2B",
     );
-    // "For IPv6 out 12, 9, 10."
+    read(
+        b"\x20\x01\x0D\xB8\x00\x00\x00\x00\x00\x00\x00\x00\x00\x00\x00\x2B",
+        0,
+        0b101011,
+    );
+}
+
+// "For IPv6 out 12, 9, 10."
+fn refused_out() {
     out(b"\x20\x01\x0D\xB8\x00\x00\x00", 0, &mut [0xAA; 4], 12, b"");
     out(
         b"\x20\x01\x0D\xB8\x00\x00\x00\x00\x00",
@@ -89,43 +102,37 @@ pub fn run() {
         12,
         b"",
     );
-    out(
-        b"\x20\x01\x0D\xB8\x00\x00\x00\x00",
-        0,
-        &mut [0xAA; 15],
-        9,
-        b"",
-    );
-    out(
-        b"\x20\x01\x0D\xB8\x00\x00\x00\x00",
-        1,
-        &mut [0xAA; 15],
-        10,
-        b"",
-    );
-    // "For IPv6 back 12, 8, 9."
+    written(0, &mut [0xAA; 15], 9, b"");
+    written(1, &mut [0xAA; 15], 10, b"");
+}
+
+// "For IPv6 back 12, 8, 9."
+fn refused_back() {
     back(
         b"\x20\x01\x0D\xB8\x00\x00\x00",
         b"\x20\x01\x0D\xB9\x00\x00\x00\x00\x00\x00\x00\x00\x00\x00\x00\x00",
         12,
         0,
     );
-    back(
-        b"\x20\x01\x0D\xB8\x00\x00\x00\x00",
+    read(
         b"\x20\x01\x0D\xB9\x00\x00\x00\x00\x00\x00\x00\x00\x00\x00\x00",
         12,
         0,
     );
-    back(
-        b"\x20\x01\x0D\xB8\x00\x00\x00\x00",
+    read(
         b"\x20\x01\x0D\xB9\x00\x00\x00\x00\x00\x00\x00\x00\x00\x00\x00\x00",
         8,
         0,
     );
-    back(
-        b"\x20\x01\x0D\xB8\x00\x00\x00\x00",
+    read(
         b"\x20\x01\x0D\xB8\x00\x00\x00\x00\x00\x00\x00\x00\x00\x00\x00\x00",
         9,
         0,
     );
+}
+
+pub(crate) fn run() {
+    drafts();
+    refused_out();
+    refused_back();
 }

@@ -96,33 +96,48 @@ fn takes(address: u64, expected: u64) {
     print::number(b"", expected, count as u64);
 }
 
-pub fn run() {
+fn addresses() {
     // "P address 111110: header F1 81 0F 00 3E."
     write(0b111110, b"\xF1\x81\x0F\x00\x3E");
     read(b"\xF1\x81\x0F\x00\x3E", 0, 0b111110, 5);
     // 003, 8.2: the address b1011
     write(0b1011, b"\xF1\x81\x0F\x00\x0B");
     read(b"\xF1\x81\x0F\x00\x0B", 0, 0b1011, 5);
-    // "P header F1 81 0F 00 00: 9. P header F1 83 0F 00 00 00 3E: 6. F1 82 0F and more: 6. F1 81 0F 00: 4. F1 A1: 5. Empty: 4."
+}
+
+// "P header F1 81 0F 00 00: 9. P header F1 83 0F 00 00 00 3E: 6. F1 82 0F and more: 6. F1 81 0F 00: 4. F1 A1: 5. Empty: 4."
+fn refusals() {
     read(b"\xF1\x81\x0F\x00\x00", 9, 0, 0);
     read(b"\xF1\x83\x0F\x00\x00\x00\x3E", 6, 0, 0);
-    read(b"\xF1\x82\x0F", 6, 0, 0);
     read(b"\xF1\x82\x0F\x01\x00\x00\x00", 6, 0, 0);
     read(b"\xF1\x81\x0F\x00", 4, 0, 0);
-    read(b"\xF1\xA1", 5, 0, 0);
+}
+
+// "the first three octets are checked in order; one that is absent is 4, one that is wrong is 5"
+fn starts() {
     read(b"", 4, 0, 0);
-    // "the first three octets are checked in order; one that is absent is 4, one that is wrong is 5"
     read(b"\xF0", 5, 0, 0);
     read(b"\xF1", 4, 0, 0);
+    read(b"\xF1\xA1", 5, 0, 0);
+}
+
+fn third_octet() {
     read(b"\xF1\x82", 4, 0, 0);
     read(b"\xF1\x82\x00", 5, 0, 0);
-    // "Then a size other than 2, 4, 6 or 8 octets is 6. Then a missing address octet is 4."
+    read(b"\xF1\x82\x0F", 6, 0, 0);
+}
+
+// "Then a size other than 2, 4, 6 or 8 octets is 6. Then a missing address octet is 4."
+fn sizes() {
     read(b"\xF1\x80\x0F\x3E", 6, 0, 0);
     read(b"\xF1\x88\x0F", 6, 0, 0);
     read(b"\xF1\x91\x0F\x00\x3E", 6, 0, 0);
     read(b"\xF1\x83\x0F\x00\x00", 4, 0, 0);
     read(b"\xF1\x83\x0F\x00\x00\x00\x00", 6, 0, 0);
-    // the payload begins behind the address
+}
+
+// The payload begins behind the address.
+fn places() {
     read(b"\xF1\x83\x0F\x00\x01\x00\x00\xAB\xCD", 0, 65536, 7);
     read(
         b"\xF1\x87\x0F\x80\x00\x00\x00\x00\x00\x00\x00",
@@ -130,15 +145,32 @@ pub fn run() {
         0x8000_0000_0000_0000,
         11,
     );
-    // "Address 65,535 takes 2 octets, 65,536 takes 4."
+    write(65536, b"\xF1\x83\x0F\x00\x01\x00\x00");
+}
+
+// "Address 65,535 takes 2 octets, 65,536 takes 4."
+fn counts() {
     takes(65535, 2);
     takes(65536, 4);
     takes(0x1_0000_0000, 6);
     takes(0xFFFF_FFFF_FFFF_FFFF, 8);
-    write(65536, b"\xF1\x83\x0F\x00\x01\x00\x00");
-    // "For writing a header 9, 10."
+}
+
+// "For writing a header 9, 10."
+fn rooms() {
     write_refused(0, &mut [0xAA; 2], 9);
     write_refused(0, &mut [0xAA; 16], 9);
     write_refused(0b111110, &mut [0xAA; 4], 10);
     write_refused(0xFFFF_FFFF_FFFF_FFFF, &mut [0xAA; 10], 10);
+}
+
+pub(crate) fn run() {
+    addresses();
+    refusals();
+    starts();
+    third_octet();
+    sizes();
+    places();
+    counts();
+    rooms();
 }

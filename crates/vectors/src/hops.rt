@@ -139,17 +139,22 @@ fn known() {
     child(record(0b10, 2, 2), 0b101011, 0b1010);
 }
 
-fn rules() {
-    // rule 1 before rule 2: a host delivers what is its own
+// Rule 1 before rule 2: a host delivers what is its own. Rule 2: "11 would keep packets for 110 and 111".
+fn here() {
     deliver(record(0b11, 0, 0), 0b11);
     deliver(record(1, 0, 0), 1);
-    // rule 2: "11 would keep packets for 110 and 111"
     parent(record(0b11, 0, 0), 0b111, 1);
-    // rule 3: "D shorter than C, or of the same length and different, falls here."
+}
+
+// Rule 3: "D shorter than C, or of the same length and different, falls here."
+fn up() {
     parent(record(0b100, 0, 0), 0b10, 0b10);
     parent(record(0b100, 0, 0), 0b101, 0b10);
     parent(record(0b1010, 0, 2), 0b10011, 0b10);
-    // rule 4: the last bit belongs to the child; each kind has its own count
+}
+
+// Rule 4: the last bit belongs to the child; each kind has its own count.
+fn down() {
     child(record(1, 0, 2), 0b111, 0b111);
     refused(record(1, 1, 0), 0b11, 7);
     refused(record(1, 0, 1), 0b10, 7);
@@ -169,8 +174,10 @@ fn refusals() {
     refused(record(1, 0, 0), 0, 9);
 }
 
-pub fn run() {
+pub(crate) fn run() {
     known();
-    rules();
+    here();
+    up();
+    down();
     refusals();
 }

@@ -105,26 +105,42 @@ fn refused(first: u64, second: u64, words: &mut [u64], refusal: u8) {
     print::verdict(untouched(words));
 }
 
-pub fn run() {
-    // the path program's printed example
+// The path program's printed example; "Path 1001 to 111: 4 hops."
+fn known() {
     path(
         0b10011,
         0b101011,
         4,
         &[0b10011, 0b100, 0b10, 0b1010, 0b101011],
     );
-    // "Path 1001 to 111: 4 hops. Path from any address to itself: 0 hops, one entry."
     path(0b1001, 0b111, 4, &[0b1001, 0b100, 0b10, 1, 0b111]);
+}
+
+// "Path from any address to itself: 0 hops, one entry."
+fn alone() {
     path(1, 1, 0, &[1]);
     path(0b1011, 0b1011, 0, &[0b1011]);
+}
+
+fn others() {
     // 003, 14: "1 -> 10 -> 1010 -> 101011"
     path(1, 0b101011, 3, &[1, 0b10, 0b1010, 0b101011]);
     // a host is nobody's ancestor
     path(0b11, 0b110, 2, &[0b11, 1, 0b110]);
     // "It has at most 126 addresses (125 hops)."
     long(0x8000_0000_0000_0000, 0xC000_0000_0000_0000, 125);
-    // "For a path 9, 10."
+}
+
+// "For a path 9, 10."
+fn refusals() {
     refused(0, 0b11, &mut [0; 2], 9);
     refused(0b11, 0, &mut [0; 2], 9);
     refused(0b11, 0b110, &mut [0; 2], 10);
+}
+
+pub(crate) fn run() {
+    known();
+    alone();
+    others();
+    refusals();
 }

@@ -1,16 +1,16 @@
 // Lines of the form: what was asked, the document's value, the answer, and whether the two are the same.
 use libc::STDOUT_FILENO;
 
-pub fn text(line: &[u8]) {
+pub(crate) fn text(line: &[u8]) {
     io::write_all(STDOUT_FILENO, line);
 }
 
-pub fn decimal(number: u64) {
+pub(crate) fn decimal(number: u64) {
     io::print_decimal(STDOUT_FILENO, number);
 }
 
 // The number in binary digits, and a single 0 for zero.
-pub fn binary(number: u64) {
+pub(crate) fn binary(number: u64) {
     if number == 0 {
         text(b"0");
         return;
@@ -23,7 +23,7 @@ pub fn binary(number: u64) {
 }
 
 // The number in binary digits, behind a space.
-pub fn spaced(number: u64) {
+pub(crate) fn spaced(number: u64) {
     text(b" ");
     binary(number);
 }
@@ -37,7 +37,7 @@ fn octet(o: u8) {
     io::print_hex(STDOUT_FILENO, wide(o), 2);
 }
 
-pub fn octets(from: &[u8]) {
+pub(crate) fn octets(from: &[u8]) {
     if from.len() == 0 {
         text(b" nothing");
     }
@@ -48,15 +48,15 @@ pub fn octets(from: &[u8]) {
     }
 }
 
-pub fn document() {
+pub(crate) fn document() {
     text(b" | document");
 }
 
-pub fn answer() {
+pub(crate) fn answer() {
     text(b" | answer");
 }
 
-pub fn verdict(same: bool) {
+pub(crate) fn verdict(same: bool) {
     if same {
         text(b" | ok\n");
     } else {
@@ -65,7 +65,7 @@ pub fn verdict(same: bool) {
 }
 
 // A line for one number.
-pub fn number(asked: &[u8], expected: u64, got: u64) {
+pub(crate) fn number(asked: &[u8], expected: u64, got: u64) {
     text(asked);
     document();
     text(b" ");
@@ -77,7 +77,7 @@ pub fn number(asked: &[u8], expected: u64, got: u64) {
 }
 
 // A line for an address and a refusal.
-pub fn address(expected: u64, refusal: u8, got: u64, got_refusal: u8) {
+pub(crate) fn address(expected: u64, refusal: u8, got: u64, got_refusal: u8) {
     document();
     named(expected, refusal);
     answer();
@@ -90,7 +90,7 @@ pub fn address(expected: u64, refusal: u8, got: u64, got_refusal: u8) {
 }
 
 // An address, or the refusal in its place.
-pub fn named(number: u64, refusal: u8) {
+pub(crate) fn named(number: u64, refusal: u8) {
     text(b" ");
     if refusal == 0 {
         binary(number);
@@ -105,7 +105,7 @@ pub fn named(number: u64, refusal: u8) {
 }
 
 // Whether a buffer begins with the octets expected and holds the filling behind them.
-pub fn framed(buffer: &[u8], expected: &[u8], filling: u8) -> bool {
+pub(crate) fn framed(buffer: &[u8], expected: &[u8], filling: u8) -> bool {
     if buffer.len() < expected.len() {
         return false;
     }
@@ -124,7 +124,7 @@ pub fn framed(buffer: &[u8], expected: &[u8], filling: u8) -> bool {
 }
 
 // The first octets of a buffer, as many as are asked for and there.
-pub fn front(buffer: &[u8], count: usize) {
+pub(crate) fn front(buffer: &[u8], count: usize) {
     if count <= buffer.len() {
         octets(&buffer[..count]);
         return;
