@@ -1,0 +1,8 @@
+-- The laws of the line crate.
+mod Stores
+mod Texts
+mod Digits
+mod Asked
+pub mod Replies
+pub mod Exact
+pub mod Promises

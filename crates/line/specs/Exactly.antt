@@ -1,0 +1,18 @@
+-- What is claimed of the line: an input is read as two addresses exactly if it is their line, and the output always fits 8,200 octets.
+use mathlib.Core.Path.{_≡_}
+use mathlib.Core.List.{List, [], _∷_, _++_}
+use Prim.Native.Nat.{ℕ, _≤_}
+use lib.ListN.{length}
+use Rattle.address.specs.Reading.{IsAddress}
+use Rattle.line.specs.Line.{asked, between, addressText, space, newline, outputText}
+
+-- "two addresses in binary digits, one space between, a newline, nothing after"
+unfoldable pub lineOf : ℕ → ℕ → List ℕ
+lineOf a d = addressText a ++ (space ∷ []) ++ addressText d ++ (newline ∷ [])
+
+pub record ExactlyTheLine : Type 0 where
+  pub reads : (a d : ℕ) → IsAddress a → IsAddress d → asked (lineOf a d) ≡ between a d
+  pub only : (input : List ℕ) (a d : ℕ) → asked input ≡ between a d → IsAddress a × IsAddress d × (input ≡ lineOf a d)
+
+abbrev pub OutputFits : Type 0
+OutputFits = (input : List ℕ) → length (outputText input) ≤ 8200

@@ -1,0 +1,3 @@
+-- What the line crate promises, in definitions and statements alone.
+pub mod Line
+pub mod Exactly

@@ -1,0 +1,69 @@
+// The path program's work, from the octets of its input to those of its output: specs/Line.antt has both texts.
+mod read;
+mod write;
+
+use address::Address;
+use address::octets::Written;
+ghost use mathlib.Core.Path.{_≡_};
+ghost use Prim.Native.Nat.{_<_};
+ghost use lib.ListN.{length};
+ghost use lib.Dec.{ltb};
+ghost use Rattle.address.specs.Choice.{if_then_else_};
+ghost use Rattle.address.specs.Octets.{Effect, refuseWriting, write};
+ghost use Rattle.route.specs.Path.{path};
+ghost use Rattle.line.specs.Line.{refusedText, pathText, reply};
+
+// Refusal 10: "lent output too short".
+pub const NO_ROOM: u8 = 10;
+
+// The room that every output fits.
+pub const ROOM: usize = 8200;
+
+// Writes "refused 11" and a newline.
+fn refuse(out: &mut [u8]) -> Written
+    ensures { λ r. ⌜ _≡_ {A = Effect} (record { answer = r; buffer = now (out .exit) }) (if ltb (length (now (out .entry))) (length refusedText) then refuseWriting 10 (now (out .entry)) else write refusedText (now (out .entry))) ⌝ }
+{
+    if out.len() < 11 {
+        return Written {
+            refusal: NO_ROOM,
+            count: 0,
+        };
+    }
+    let count = write::put_text(b"refused 11\n", 0, out);
+    Written { refusal: 0, count }
+}
+
+// Writes the hops and the addresses of the path between two addresses.
+fn report(first: u64, second: u64, out: &mut [u8]) -> Written
+    requires { ⌜ (0 < first) × (0 < second) ⌝ }
+    ensures { λ r. ⌜ _≡_ {A = Effect} (record { answer = r; buffer = now (out .exit) }) (if ltb (length (now (out .entry))) (length (pathText (path first second))) then refuseWriting 10 (now (out .entry)) else write (pathText (path first second)) (now (out .entry))) ⌝ }
+{
+    let mut words = [0u64; 126];
+    let listed = route::path(Address::of(first), Address::of(second), &mut words);
+    let hops = listed.hops;
+    let count = hops as usize + 1;
+    let size = write::hops_size(hops) + write::lines_size(&words[..count]);
+    if out.len() < size {
+        return Written {
+            refusal: NO_ROOM,
+            count: 0,
+        };
+    }
+    let at = write::put_hops(hops, out);
+    write::put_lines(&words[..count], at, out);
+    Written {
+        refusal: 0,
+        count: size,
+    }
+}
+
+// Writes the program's whole output for an input to the front of the lent octets.
+pub fn answer(input: &[u8], out: &mut [u8]) -> Written
+    ensures { λ r. ⌜ (r ≡ reply (now (input .entry)) (now (out .entry)) .answer) × (now (out .exit) ≡ reply (now (input .entry)) (now (out .entry)) .buffer) ⌝ }
+{
+    let ends = read::read_line(input);
+    if ends.first == 0 {
+        return refuse(out);
+    }
+    report(ends.first, ends.second, out)
+}
