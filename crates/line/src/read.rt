@@ -1,6 +1,5 @@
 // Reading the line: binary digits from a place on, an address in them, and the two addresses of the whole input.
 use address::Address;
-
 ghost use mathlib.Core.Path.{_≡_};
 ghost use Prim.Native.Nat.{_+_, _%_, _^_};
 ghost use lib.ListN.{length, drop};
