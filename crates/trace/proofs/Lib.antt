@@ -1,0 +1,2 @@
+-- The laws of the trace program.
+mod Writing

@@ -1,0 +1,2 @@
+-- What the contracts of the trace program cite.
+pub mod Tree
