@@ -4,7 +4,7 @@ use address::Address;
 use forward::Hop;
 use node::Node;
 
-fn record(address: u64, routers: u8, hosts: u8) -> Node {
+pub(crate) fn record(address: u64, routers: u8, hosts: u8) -> Node {
     let mut node = Node::fresh(Address::of(address));
     node.routers = routers;
     node.hosts = hosts;
@@ -12,13 +12,13 @@ fn record(address: u64, routers: u8, hosts: u8) -> Node {
 }
 
 // What an answer says: an action, 0 for a refusal, 1 to deliver, 2 for the parent and 3 for the child; the node; the refusal.
-struct Said {
-    action: u8,
-    node: u64,
-    refusal: u8,
+pub(crate) struct Said {
+    pub(crate) action: u8,
+    pub(crate) node: u64,
+    pub(crate) refusal: u8,
 }
 
-fn says(hop: Hop) -> Said {
+pub(crate) fn says(hop: Hop) -> Said {
     match hop {
         Hop::Deliver(a) => Said {
             action: 1,
@@ -64,21 +64,31 @@ fn same(a: Said, b: Said) -> bool {
     a.refusal == b.refusal
 }
 
-fn hop(node: Node, destination: u64, expected: Said) {
+pub(crate) fn node(node: Node) {
     print::text(b"node ");
     print::binary(node.address.number);
     print::text(b" with ");
     print::decimal(node.routers as u64);
     print::text(b",");
     print::decimal(node.hosts as u64);
-    print::text(b", destination ");
-    print::binary(destination);
-    let got = says(forward::next_hop(node, Address::of(destination)));
+}
+
+pub(crate) fn compare(expected: Said, got: Said) {
     print::document();
     text(expected);
     print::answer();
     text(got);
     print::verdict(same(expected, got));
+}
+
+fn hop(record: Node, destination: u64, expected: Said) {
+    node(record);
+    print::text(b", destination ");
+    print::binary(destination);
+    compare(
+        expected,
+        says(forward::next_hop(record, Address::of(destination))),
+    );
 }
 
 fn refused(node: Node, destination: u64, refusal: u8) {

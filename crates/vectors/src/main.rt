@@ -5,6 +5,8 @@ mod children;
 mod forms;
 mod headers;
 mod hops;
+mod lines;
+mod packets;
 mod paths;
 mod print;
 
@@ -12,7 +14,9 @@ fn main() {
     addresses::run();
     children::run();
     hops::run();
+    packets::run();
     paths::run();
     headers::run();
     forms::run();
+    lines::run();
 }

@@ -1,0 +1,4 @@
+-- The laws of the pasa crate.
+mod Front
+mod Ends
+pub mod Promises

@@ -1,0 +1,33 @@
+-- `pasa_header_read` meets its contract: each case of the answer shows the numbers that the reading promised. Assumes nothing.
+use mathlib.Core.Path.{sym, ap, _∙_}
+use Rattle.header.specs.declared.Reading.{Reading}
+use Rattle.header.specs.Header.{answer}
+use Rattle.pasa.specs.Bytes.{readAnswer}
+use borrow.Author.Needs.{needs}
+use Rattle.pasa.proofs.bytes.pasa_header_read.Statement.{statement}
+use Rattle.pasa.proofs.bytes.pasa_header_read.Tie as tie
+
+read-requires : tie.Need-read-requires
+read-requires c κs = search needs
+
+enum-known-address : tie.Need-enum-known-address
+enum-known-address c = search needs
+
+enum-known-number : tie.Need-enum-known-number
+enum-known-number c = search needs
+
+returns : tie.Need-returns
+unfolding answer readAnswer
+returns c =
+    sym (ap (λ (h : Reading). readAnswer (answer h)) (c .before .address .given .1))
+    ∙ ap readAnswer (c .before .before .before .read .ensures)
+
+returns-2 : tie.Need-returns-2
+unfolding answer readAnswer
+returns-2 c =
+    sym (ap (λ (h : Reading). readAnswer (answer h)) (c .before .number .given .1))
+    ∙ ap readAnswer (c .before .before .before .read .ensures)
+
+pub pasa-header-read-spec : {M : Type 1} → statement M
+pasa-header-read-spec =
+    tie.close (tie.spec read-requires enum-known-address enum-known-number returns returns-2)

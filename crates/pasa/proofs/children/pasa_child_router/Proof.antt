@@ -1,0 +1,20 @@
+-- `pasa_child_router` meets its contract, by those of the functions that it calls. Assumes nothing.
+use borrow.Author.Needs.{needs}
+use Rattle.pasa.proofs.children.pasa_child_router.Statement.{statement}
+use Rattle.pasa.proofs.children.pasa_child_router.Tie as tie
+
+node-of-requires : tie.Need-node-of-requires
+node-of-requires c κs = search needs
+
+child-requires : tie.Need-child-requires
+child-requires c κs = search needs
+
+child-answer-requires : tie.Need-child-answer-requires
+child-answer-requires c κs = search needs
+
+returns : tie.Need-returns
+returns c = cc
+
+pub pasa-child-router-spec : {M : Type 1} → statement M
+pasa-child-router-spec =
+    tie.close (tie.spec node-of-requires child-requires child-answer-requires returns)

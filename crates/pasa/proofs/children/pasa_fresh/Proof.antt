@@ -1,0 +1,19 @@
+-- `pasa_fresh` meets its contract, by those of the functions that it calls. Assumes nothing.
+use borrow.Author.Needs.{needs}
+use Rattle.pasa.proofs.children.pasa_fresh.Statement.{statement}
+use Rattle.pasa.proofs.children.pasa_fresh.Tie as tie
+
+of-requires : tie.Need-of-requires
+of-requires c κs = search needs
+
+fresh-requires : tie.Need-fresh-requires
+fresh-requires c κs = search needs
+
+record-of-requires : tie.Need-record-of-requires
+record-of-requires c κs = search needs
+
+returns : tie.Need-returns
+returns c = cc
+
+pub pasa-fresh-spec : {M : Type 1} → statement M
+pasa-fresh-spec = tie.close (tie.spec of-requires fresh-requires record-of-requires returns)

@@ -1,0 +1,49 @@
+-- `hop_answer` meets its contract, case by case. Assumes nothing.
+use mathlib.Core.Path.{sym, ap}
+use Rattle.forward.specs.declared.Hop.{Hop}
+use Rattle.forward.specs.Forward.{answer}
+use Rattle.pasa.specs.Hops.{hopAnswer, actionNumber}
+use borrow.Author.Needs.{needs}
+use Rattle.pasa.proofs.hops.hop_answer.Statement.{statement}
+use Rattle.pasa.proofs.hops.hop_answer.Tie as tie
+
+enum-known-hop : tie.Need-enum-known-hop
+enum-known-hop c = search needs
+
+enum-known-hop-2 : tie.Need-enum-known-hop-2
+enum-known-hop-2 c = search needs
+
+enum-known-hop-3 : tie.Need-enum-known-hop-3
+enum-known-hop-3 c = search needs
+
+enum-known-hop-4 : tie.Need-enum-known-hop-4
+enum-known-hop-4 c = search needs
+
+returns : tie.Need-returns
+unfolding answer hopAnswer actionNumber
+returns c = sym (ap (λ (h : Hop). hopAnswer (answer h)) (c .before .hop .given .1))
+
+returns-2 : tie.Need-returns-2
+unfolding answer hopAnswer actionNumber
+returns-2 c = sym (ap (λ (h : Hop). hopAnswer (answer h)) (c .before .hop2 .given .1))
+
+returns-3 : tie.Need-returns-3
+unfolding answer hopAnswer actionNumber
+returns-3 c = sym (ap (λ (h : Hop). hopAnswer (answer h)) (c .before .hop3 .given .1))
+
+returns-4 : tie.Need-returns-4
+unfolding answer hopAnswer actionNumber
+returns-4 c = sym (ap (λ (h : Hop). hopAnswer (answer h)) (c .before .hop4 .given .1))
+
+pub hop-answer-spec : {M : Type 1} → statement M
+hop-answer-spec =
+    tie.close
+    (tie.spec
+    enum-known-hop
+    enum-known-hop-2
+    enum-known-hop-3
+    enum-known-hop-4
+    returns
+    returns-2
+    returns-3
+    returns-4)

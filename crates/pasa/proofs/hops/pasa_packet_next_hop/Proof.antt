@@ -1,0 +1,20 @@
+-- `pasa_packet_next_hop` meets its contract, by those of the functions that it calls. Assumes nothing.
+use borrow.Author.Needs.{needs}
+use Rattle.pasa.proofs.hops.pasa_packet_next_hop.Statement.{statement}
+use Rattle.pasa.proofs.hops.pasa_packet_next_hop.Tie as tie
+
+node-of-requires : tie.Need-node-of-requires
+node-of-requires c κs = search needs
+
+next-hop-requires : tie.Need-next-hop-requires
+next-hop-requires c κs = search needs
+
+hop-answer-requires : tie.Need-hop-answer-requires
+hop-answer-requires c κs = search needs
+
+returns : tie.Need-returns
+returns c = cc
+
+pub pasa-packet-next-hop-spec : {M : Type 1} → statement M
+pasa-packet-next-hop-spec =
+    tie.close (tie.spec node-of-requires next-hop-requires hop-answer-requires returns)

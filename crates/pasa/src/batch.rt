@@ -1,0 +1,143 @@
+// The next hops for many destinations at one node.
+//
+// Each is promised to be what a single call answers. The rules stand here once more, as a function that has the loop for its only caller: the
+// compiler takes it into the loop, and what the rules ask of the node alone out of it. A call of `forward::next_hop` for each destination
+// takes up to twice as long.
+use super::children::NodeRecord;
+use super::hops::HopAnswer;
+use address::Address;
+use address::Kind;
+use node::Node;
+ghost use mathlib.Core.Path.{_≡_};
+ghost use mathlib.Core.Bool.{true, false};
+ghost use Prim.Native.Nat.{_%_};
+ghost use lib.Dec.{eqb};
+ghost use lib.ListN.{drop};
+ghost use Rattle.address.specs.Choice.{if_then_else_};
+ghost use Rattle.address.specs.Bits.{bits};
+ghost use Rattle.address.specs.Address.{bitLength, isHost};
+ghost use Rattle.address.specs.Reading.{IsAddress};
+ghost use Rattle.address.specs.Search.{lookedAt, isPrefix};
+ghost use Rattle.address.specs.declared.Kind.the-variants.{Router, Host};
+ghost use Rattle.forward.specs.Forward.{toward, nextHop};
+ghost use Rattle.pasa.specs.Children.{nodeOf};
+ghost use Rattle.pasa.specs.Hops.{hopAnswer};
+ghost use Rattle.pasa.specs.Batch.{least, hopsOf};
+
+// The kind of a child by its last bit.
+fn kind_of(child: Address) -> Kind
+    ensures { λ r. ⌜ r ≡ (if eqb (child .number % 2) 0 then Router else Host) ⌝ }
+{
+    if child.number % 2 == 0 {
+        return Kind::Router;
+    }
+    Kind::Host
+}
+
+// Rule 4: the next child on the way to an address of which the node's is a proper prefix.
+fn toward(node: Node, destination: Address) -> HopAnswer
+    requires { ⌜ IsAddress (node .address .number) ⌝ }
+    requires { ⌜ IsAddress (destination .number) ⌝ }
+    requires { ⌜ isHost (node .address .number) ≡ false ⌝ }
+    requires { ⌜ isPrefix (bits (node .address .number)) (bits (destination .number)) ≡ true ⌝ }
+    requires { ⌜ (destination .number ≡ node .address .number → ⊥) ⌝ }
+    ensures { λ r. ⌜ r ≡ hopAnswer (toward node (lookedAt (drop (bitLength (node .address .number)) (bits (destination .number))))) ⌝ }
+{
+    let length = node.address.bit_length();
+    let end = destination.child_end(length);
+    let child = Address::of(destination.number >> (destination.bit_length() - end));
+    let index = end - length - 1;
+    if index < node.count(kind_of(child)) as u32 {
+        return HopAnswer {
+            node: child.number,
+            refusal: 0,
+            action: super::hops::TO_CHILD,
+        };
+    }
+    HopAnswer {
+        node: 0,
+        refusal: forward::CHILD_NOT_GIVEN,
+        action: super::hops::STOPPED,
+    }
+}
+
+// The next hop for a packet to the destination, at the node with this record.
+fn hop(node: Node, destination: Address) -> HopAnswer
+    ensures { λ r. ⌜ r ≡ hopAnswer (nextHop node (destination .number)) ⌝ }
+{
+    if !node.is_good() {
+        return HopAnswer {
+            node: 0,
+            refusal: node::BAD_RECORD,
+            action: super::hops::STOPPED,
+        };
+    }
+    if destination.number == 0 {
+        return HopAnswer {
+            node: 0,
+            refusal: address::ZERO_ADDRESS,
+            action: super::hops::STOPPED,
+        };
+    }
+    let here = node.address;
+    if destination.number == here.number {
+        return HopAnswer {
+            node: here.number,
+            refusal: 0,
+            action: super::hops::DELIVERED,
+        };
+    }
+    if here.is_host() {
+        return HopAnswer {
+            node: here.parent().number,
+            refusal: 0,
+            action: super::hops::TO_PARENT,
+        };
+    }
+    if destination.prefix(here.bit_length()).number != here.number {
+        return HopAnswer {
+            node: here.parent().number,
+            refusal: 0,
+            action: super::hops::TO_PARENT,
+        };
+    }
+    toward(node, destination)
+}
+
+fn least(a: usize, b: usize) -> usize
+    ensures { λ r. ⌜ r ≡ least a b ⌝ }
+{
+    if a <= b {
+        return a;
+    }
+    b
+}
+
+// The next hops for many destinations, at the node with this record: as many as the shortest slice allows, which is the answer. What
+// stands behind so many in the slices lent stays as it was.
+#[no_mangle]
+pub extern "C" fn pasa_next_hops(
+    node: NodeRecord,
+    destinations: &[u64],
+    nodes: &mut [u64],
+    actions: &mut [u8],
+    refusals: &mut [u8],
+) -> usize
+    ensures { λ r. ⌜ record { count = r; nodes = now (nodes .exit); actions = now (actions .exit); refusals = now (refusals .exit) }
+        ≡ hopsOf (nodeOf node) (now (destinations .entry)) (now (nodes .entry)) (now (actions .entry)) (now (refusals .entry)) ⌝ }
+{
+    let here = super::children::node_of(node);
+    let count = least(
+        least(destinations.len(), nodes.len()),
+        least(actions.len(), refusals.len()),
+    );
+    let mut i = 0;
+    while i < count {
+        let answer = hop(here, Address::of(destinations[i]));
+        nodes[i] = answer.node;
+        actions[i] = answer.action;
+        refusals[i] = answer.refusal;
+        i += 1;
+    }
+    count
+}

@@ -1,0 +1,244 @@
+/* Calls every function of pasa.h and compares with the specification's known values. Each difference is a line, and the exit status is 1;
+ * without one the last line says how many values were compared. */
+#include <inttypes.h>
+#include <stdio.h>
+#include <string.h>
+
+#include "pasa.h"
+
+static unsigned compared, differences;
+
+static void same(const char *what, uint64_t got, uint64_t expected)
+{
+    compared++;
+    if (got != expected) {
+        differences++;
+        printf("%s: 0x%" PRIx64 ", but the specification says 0x%" PRIx64 "\n", what, got, expected);
+    }
+}
+
+static void same_octets(const char *what, const uint8_t *got, const uint8_t *expected, size_t count)
+{
+    for (size_t i = 0; i < count; i++) {
+        char place[96];
+        snprintf(place, sizeof place, "%s, octet %zu", what, i);
+        same(place, got[i], expected[i]);
+    }
+}
+
+/* The address that binary digits show. */
+static uint64_t bits(const char *digits)
+{
+    uint64_t number = 0;
+    for (; *digits != '\0'; digits++)
+        number = number * 2 + (uint64_t)(*digits - '0');
+    return number;
+}
+
+static struct pasa_node record(const char *digits, uint8_t routers, uint8_t hosts)
+{
+    struct pasa_node node = pasa_fresh(bits(digits));
+    node.routers = routers;
+    node.hosts = hosts;
+    return node;
+}
+
+static void same_child(const char *what, struct pasa_child got, uint64_t child, struct pasa_node node, uint8_t refusal)
+{
+    char part[96];
+    snprintf(part, sizeof part, "%s: the child", what);
+    same(part, got.child, child);
+    snprintf(part, sizeof part, "%s: the refusal", what);
+    same(part, got.refusal, refusal);
+    snprintf(part, sizeof part, "%s: the record's address", what);
+    same(part, got.node.address, node.address);
+    snprintf(part, sizeof part, "%s: the record's routers", what);
+    same(part, got.node.routers, node.routers);
+    snprintf(part, sizeof part, "%s: the record's hosts", what);
+    same(part, got.node.hosts, node.hosts);
+}
+
+static void same_hop(const char *what, struct pasa_hop got, const char *node, uint8_t action, uint8_t refusal)
+{
+    char part[96];
+    snprintf(part, sizeof part, "%s: the node", what);
+    same(part, got.node, bits(node));
+    snprintf(part, sizeof part, "%s: the action", what);
+    same(part, got.action, action);
+    snprintf(part, sizeof part, "%s: the refusal", what);
+    same(part, got.refusal, refusal);
+}
+
+static void children(void)
+{
+    struct pasa_node root = pasa_fresh(PASA_ROOT);
+    same("a fresh record's address", root.address, 1);
+    same("a fresh record's routers", root.routers, 0);
+    same("a fresh record's hosts", root.hosts, 0);
+    same_child("the root's first router", pasa_child_router(root), bits("10"), record("1", 1, 0), PASA_DONE);
+    same_child("then a host", pasa_child_host(record("1", 1, 0)), bits("11"), record("1", 1, 1), PASA_DONE);
+    same_child("then a router", pasa_child_router(record("1", 1, 1)), bits("110"), record("1", 2, 1), PASA_DONE);
+    same_child("then a host", pasa_child_host(record("1", 2, 1)), bits("111"), record("1", 2, 2), PASA_DONE);
+    same_child("a router of node 10", pasa_child_router(record("10", 1, 1)), bits("1010"), record("10", 2, 1), PASA_DONE);
+    same_child("a host of node 10", pasa_child_host(record("10", 1, 1)), bits("1011"), record("10", 1, 2), PASA_DONE);
+    same_child("the root's 63rd host", pasa_child_host(record("1", 0, 62)), UINT64_MAX, record("1", 0, 63), PASA_DONE);
+    same_child("the root's 64th host", pasa_child_host(record("1", 0, 63)), 0, record("1", 0, 63), PASA_TOO_LONG);
+
+    struct pasa_node long_router = pasa_fresh(UINT64_C(1) << 62);
+    struct pasa_child first = pasa_child_router(long_router);
+    same("a 63-bit router's router", first.child, UINT64_C(1) << 63);
+    struct pasa_child second = pasa_child_host(first.node);
+    same("a 63-bit router's host", second.child, (UINT64_C(1) << 63) + 1);
+    same_child("its second router", pasa_child_router(second.node), 0, second.node, PASA_TOO_LONG);
+    same_child("its second host", pasa_child_host(second.node), 0, second.node, PASA_TOO_LONG);
+    struct pasa_node longest_router = pasa_fresh(UINT64_C(1) << 63);
+    same_child("a 64-bit router's router", pasa_child_router(longest_router), 0, longest_router, PASA_TOO_LONG);
+    same_child("a 64-bit router's host", pasa_child_host(longest_router), 0, longest_router, PASA_TOO_LONG);
+    same_child("host 11 asked", pasa_child_router(record("11", 0, 0)), 0, record("11", 0, 0), PASA_HOST_ASKED);
+    same_child("host 11 with a count of 1", pasa_child_host(record("11", 1, 0)), 0, record("11", 1, 0), PASA_BAD_RECORD);
+    same_child("a record of address zero", pasa_child_host(record("0", 0, 0)), 0, record("0", 0, 0), PASA_BAD_RECORD);
+}
+
+static void next_hops(void)
+{
+    same_hop("at 11 for 110", pasa_next_hop(record("11", 0, 0), bits("110")), "1", PASA_TO_PARENT, PASA_DONE);
+    same_hop("at 1 for 110", pasa_next_hop(record("1", 2, 2), bits("110")), "110", PASA_TO_CHILD, PASA_DONE);
+    same_hop("at 1 for 1110", pasa_next_hop(record("1", 2, 2), bits("1110")), "0", PASA_STOPPED, PASA_CHILD_NOT_GIVEN);
+    same_hop("at 10 for 101011", pasa_next_hop(record("10", 2, 2), bits("101011")), "1010", PASA_TO_CHILD, PASA_DONE);
+    same_hop("at 10 for 10", pasa_next_hop(record("10", 2, 2), bits("10")), "10", PASA_DELIVERED, PASA_DONE);
+    same_hop("at 10 for zero", pasa_next_hop(record("10", 2, 2), 0), "0", PASA_STOPPED, PASA_ZERO_ADDRESS);
+    same_hop("at a bad record for zero", pasa_next_hop(record("10", 63, 0), 0), "0", PASA_STOPPED, PASA_BAD_RECORD);
+
+    uint8_t packet[16] = {0};
+    struct pasa_written written = pasa_header_write(bits("101011"), packet, sizeof packet);
+    same_hop("at 10 for a packet to 101011", pasa_packet_next_hop(record("10", 2, 2), packet, sizeof packet), "1010", PASA_TO_CHILD,
+             PASA_DONE);
+    same_hop("at 10 for half a packet", pasa_packet_next_hop(record("10", 2, 2), packet, written.count - 1), "0", PASA_STOPPED,
+             PASA_ENDS_EARLY);
+    same_hop("at 10 for no packet", pasa_packet_next_hop(record("10", 2, 2), NULL, 0), "0", PASA_STOPPED, PASA_ENDS_EARLY);
+
+    const uint64_t destinations[4] = {bits("110"), bits("1110"), bits("1"), 0};
+    uint64_t nodes[4] = {90, 91, 92, 93};
+    uint8_t actions[4] = {80, 81, 82, 83};
+    uint8_t refusals[3] = {70, 71, 72};
+    same("many next hops, as many as the shortest allows",
+         pasa_next_hops(record("1", 2, 2), destinations, 4, nodes, 4, actions, 4, refusals, 3), 3);
+    same("the first of many: the node", nodes[0], bits("110"));
+    same("the first of many: the action", actions[0], PASA_TO_CHILD);
+    same("the first of many: the refusal", refusals[0], PASA_DONE);
+    same("the second of many: the node", nodes[1], 0);
+    same("the second of many: the action", actions[1], PASA_STOPPED);
+    same("the second of many: the refusal", refusals[1], PASA_CHILD_NOT_GIVEN);
+    same("the third of many: the node", nodes[2], 1);
+    same("the third of many: the action", actions[2], PASA_DELIVERED);
+    same("the third of many: the refusal", refusals[2], PASA_DONE);
+    same("the node behind them", nodes[3], 93);
+    same("the action behind them", actions[3], 83);
+    same("no next hops", pasa_next_hops(record("1", 2, 2), NULL, 0, NULL, 0, NULL, 0, NULL, 0), 0);
+    same("no room for next hops", pasa_next_hops(record("1", 2, 2), destinations, 4, nodes, 4, NULL, 0, refusals, 3), 0);
+}
+
+static void read_as(const char *what, const uint8_t *packet, size_t length, uint64_t address, size_t place, uint8_t refusal)
+{
+    char part[96];
+    struct pasa_read got = pasa_header_read(packet, length);
+    snprintf(part, sizeof part, "%s: the address", what);
+    same(part, got.address, address);
+    snprintf(part, sizeof part, "%s: the place", what);
+    same(part, got.place, place);
+    snprintf(part, sizeof part, "%s: the refusal", what);
+    same(part, got.refusal, refusal);
+}
+
+static void headers(void)
+{
+    const uint8_t known[6] = {0xF1, 0x81, 0x0F, 0x00, 0x3E, 0x55};
+    uint8_t out[PASA_HEADER_MOST];
+    memset(out, 0x55, sizeof out);
+    struct pasa_written written = pasa_header_write(bits("111110"), out, sizeof out);
+    same("the header of 111110: its octets", written.count, 5);
+    same("the header of 111110: the refusal", written.refusal, PASA_DONE);
+    same_octets("the header of 111110, and one behind it", out, known, sizeof known);
+    read_as("the header of 111110", known, 5, bits("111110"), 5, PASA_DONE);
+    read_as("the header of 111110 with a payload", known, 6, bits("111110"), 5, PASA_DONE);
+    same("the header of 65,535: its octets", pasa_header_write(65535, out, sizeof out).count, 5);
+    same("the header of 65,536: its octets", pasa_header_write(65536, out, sizeof out).count, 7);
+    same("the longest header: its octets", pasa_header_write(UINT64_MAX, out, sizeof out).count, PASA_HEADER_MOST);
+    same("no room for a header", pasa_header_write(65536, out, 6).refusal, PASA_NO_ROOM);
+    same("no buffer for a header", pasa_header_write(1, NULL, 0).refusal, PASA_NO_ROOM);
+    same("a header of zero", pasa_header_write(0, NULL, 0).refusal, PASA_ZERO_ADDRESS);
+
+    read_as("F1 81 0F 00 00", (const uint8_t[]){0xF1, 0x81, 0x0F, 0x00, 0x00}, 5, 0, 0, PASA_ZERO_ADDRESS);
+    read_as("F1 83 0F 00 00 00 3E", (const uint8_t[]){0xF1, 0x83, 0x0F, 0x00, 0x00, 0x00, 0x3E}, 7, 0, 0, PASA_WRONG_SIZE);
+    read_as("F1 82 0F and more", (const uint8_t[]){0xF1, 0x82, 0x0F, 0x00, 0x00, 0x3E}, 6, 0, 0, PASA_WRONG_SIZE);
+    read_as("F1 81 0F 00", (const uint8_t[]){0xF1, 0x81, 0x0F, 0x00}, 4, 0, 0, PASA_ENDS_EARLY);
+    read_as("F1 A1", (const uint8_t[]){0xF1, 0xA1}, 2, 0, 0, PASA_WRONG_START);
+    read_as("no octets", NULL, 0, 0, 0, PASA_ENDS_EARLY);
+}
+
+static void ipv6_forms(void)
+{
+    const uint8_t prefix[PASA_IPV6_PREFIX] = {0x20, 0x01, 0x0d, 0xb8};
+    const uint8_t other[PASA_IPV6_PREFIX] = {0x20, 0x01, 0x0d, 0xb9};
+    const uint8_t known[PASA_IPV6_WHOLE] = {0x20, 0x01, 0x0d, 0xb8, [15] = 0x3e};
+    uint8_t out[PASA_IPV6_WHOLE];
+    memset(out, 0x55, sizeof out);
+    struct pasa_written written = pasa_ipv6_write(prefix, sizeof prefix, bits("111110"), out, sizeof out);
+    same("2001:db8::3e: its octets", written.count, PASA_IPV6_WHOLE);
+    same("2001:db8::3e: the refusal", written.refusal, PASA_DONE);
+    same_octets("2001:db8::3e", out, known, sizeof known);
+    same("a prefix of seven octets", pasa_ipv6_write(prefix, 7, 0, NULL, 0).refusal, PASA_WRONG_LENGTH);
+    same("a form of zero", pasa_ipv6_write(prefix, sizeof prefix, 0, NULL, 0).refusal, PASA_ZERO_ADDRESS);
+    same("no room for a form", pasa_ipv6_write(prefix, sizeof prefix, 1, out, 15).refusal, PASA_NO_ROOM);
+
+    struct pasa_address got = pasa_ipv6_read(prefix, sizeof prefix, known, sizeof known);
+    same("2001:db8::3e back: the address", got.address, bits("111110"));
+    same("2001:db8::3e back: the refusal", got.refusal, PASA_DONE);
+    same("15 octets back", pasa_ipv6_read(prefix, sizeof prefix, known, 15).refusal, PASA_WRONG_LENGTH);
+    same("another prefix", pasa_ipv6_read(other, sizeof other, known, sizeof known).refusal, PASA_OTHER_PREFIX);
+    const uint8_t zero[PASA_IPV6_WHOLE] = {0x20, 0x01, 0x0d, 0xb8};
+    got = pasa_ipv6_read(prefix, sizeof prefix, zero, sizeof zero);
+    same("2001:db8:: back: the address", got.address, 0);
+    same("2001:db8:: back: the refusal", got.refusal, PASA_ZERO_ADDRESS);
+}
+
+static void path_as(const char *first, const char *second, const char *const *expected, size_t addresses)
+{
+    char part[96];
+    uint64_t words[PASA_PATH_MOST];
+    memset(words, 0x55, sizeof words);
+    struct pasa_listed listed = pasa_path(bits(first), bits(second), words, PASA_PATH_MOST);
+    snprintf(part, sizeof part, "the path %s to %s: the refusal", first, second);
+    same(part, listed.refusal, PASA_DONE);
+    snprintf(part, sizeof part, "the path %s to %s: its hops", first, second);
+    same(part, listed.hops, addresses - 1);
+    for (size_t i = 0; i < addresses; i++) {
+        snprintf(part, sizeof part, "the path %s to %s: address %zu", first, second, i);
+        same(part, words[i], bits(expected[i]));
+    }
+    snprintf(part, sizeof part, "the path %s to %s: the word behind it", first, second);
+    same(part, words[addresses], UINT64_C(0x5555555555555555));
+    snprintf(part, sizeof part, "the path %s to %s: one word too few", first, second);
+    same(part, pasa_path(bits(first), bits(second), words, addresses - 1).refusal, PASA_NO_ROOM);
+}
+
+static void paths(void)
+{
+    path_as("10011", "101011", (const char *const[]){"10011", "100", "10", "1010", "101011"}, 5);
+    path_as("1001", "111", (const char *const[]){"1001", "100", "10", "1", "111"}, 5);
+    path_as("110", "110", (const char *const[]){"110"}, 1);
+    same("a path from zero", pasa_path(0, 1, NULL, 0).refusal, PASA_ZERO_ADDRESS);
+    same("a path to zero", pasa_path(1, 0, NULL, 0).refusal, PASA_ZERO_ADDRESS);
+    same("no words for a path", pasa_path(1, 1, NULL, 0).refusal, PASA_NO_ROOM);
+}
+
+int main(void)
+{
+    children();
+    next_hops();
+    headers();
+    ipv6_forms();
+    paths();
+    printf("%u known values compared, %u different\n", compared, differences);
+    return differences == 0 ? 0 : 1;
+}

@@ -1,0 +1,307 @@
+//! Times the proved functions beside the same functions written in Rust by hand (`simple.rs`), and the next hop beside a hash map and a
+//! sorted table of 4,096 nodes. One process, the same inputs for both sides; what both answer is compared first.
+//!
+//! Each row is the least of many rounds over the inputs, the two sides taking turns, in nanoseconds for one input. `called` is the Rust
+//! version behind a call that is not inlined, as every call of the archive is; `inlined` is the Rust version in the loop itself.
+//!
+//! Run it by `cargo run --release --offline --example bench`.
+mod simple;
+
+use pasa::sys::{self, Child, Hop, Listed, Node, Read, Written};
+use pasa::Address;
+use std::collections::HashMap;
+use std::hint::black_box;
+use std::time::Instant;
+
+/// So many that the processor cannot learn the branches of one round by heart.
+const INPUTS: usize = 65_536;
+const HALL: usize = 4096;
+const ROUNDS: usize = 150;
+
+struct Random(u64);
+
+impl Random {
+    fn next(&mut self) -> u64 {
+        self.0 = self.0.wrapping_add(0x9E37_79B9_7F4A_7C15);
+        let mut z = self.0;
+        z = (z ^ (z >> 30)).wrapping_mul(0xBF58_476D_1CE4_E5B9);
+        z = (z ^ (z >> 27)).wrapping_mul(0x94D0_49BB_1331_11EB);
+        z ^ (z >> 31)
+    }
+
+    fn below(&mut self, n: u64) -> u64 {
+        self.next() % n
+    }
+
+    /// An address of any length.
+    fn address(&mut self) -> u64 {
+        (self.next() | 1 << 63) >> self.below(64)
+    }
+}
+
+// The same boundary as that of the archive.
+#[inline(never)]
+extern "C" fn called_router(node: Node) -> Child {
+    simple::child(node, false)
+}
+
+#[inline(never)]
+extern "C" fn called_host(node: Node) -> Child {
+    simple::child(node, true)
+}
+
+#[inline(never)]
+extern "C" fn called_next_hop(node: Node, destination: u64) -> Hop {
+    simple::next_hop(node, destination)
+}
+
+#[inline(never)]
+fn called_next_hops(node: Node, destinations: &[u64], nodes: &mut [u64], actions: &mut [u8], refusals: &mut [u8]) -> usize {
+    simple::next_hops(node, destinations, nodes, actions, refusals)
+}
+
+#[inline(never)]
+fn called_header_write(address: u64, out: &mut [u8]) -> Written {
+    simple::header_write(address, out)
+}
+
+#[inline(never)]
+fn called_header_read(packet: &[u8]) -> Read {
+    simple::header_read(packet)
+}
+
+#[inline(never)]
+fn called_path(first: u64, second: u64, words: &mut [u64]) -> Listed {
+    simple::path(first, second, words)
+}
+
+fn router(node: Node) -> Child {
+    unsafe { sys::pasa_child_router(node) }
+}
+
+fn host(node: Node) -> Child {
+    unsafe { sys::pasa_child_host(node) }
+}
+
+fn next_hop(node: Node, destination: u64) -> Hop {
+    unsafe { sys::pasa_next_hop(node, destination) }
+}
+
+fn header_write(address: u64, out: &mut [u8]) -> Written {
+    unsafe { sys::pasa_header_write(address, out.as_mut_ptr(), out.len()) }
+}
+
+fn header_read(packet: &[u8]) -> Read {
+    unsafe { sys::pasa_header_read(packet.as_ptr(), packet.len()) }
+}
+
+fn path(first: u64, second: u64, words: &mut [u64]) -> Listed {
+    unsafe { sys::pasa_path(first, second, words.as_mut_ptr(), words.len()) }
+}
+
+/// The least time of each side for one input, in nanoseconds.
+fn times<const N: usize>(mut sides: [&mut dyn FnMut(); N]) -> [f64; N] {
+    let mut least = [f64::INFINITY; N];
+    for _ in 0..ROUNDS {
+        for (side, least) in sides.iter_mut().zip(&mut least) {
+            let start = Instant::now();
+            side();
+            *least = least.min(start.elapsed().as_nanos() as f64 / INPUTS as f64);
+        }
+    }
+    least
+}
+
+fn row(name: &str, [proved, called, inlined]: [f64; 3]) {
+    println!("| {name} | {proved:.2} | {called:.2} | {:.2} | {inlined:.2} | {:.2} |", proved / called, proved / inlined);
+}
+
+/// Every input through one function, and what it answers kept from being thought away.
+macro_rules! each {
+    ($inputs:expr, |$input:pat_param| $call:expr) => {
+        &mut || {
+            for $input in $inputs.iter() {
+                black_box(&$call);
+            }
+        }
+    };
+}
+
+/// A tree of 4,096 nodes, in the order given, with their records: each request goes to a node given earlier, the first ones more often.
+fn hall(random: &mut Random) -> Vec<Node> {
+    let mut nodes = vec![unsafe { sys::pasa_fresh(Address::ROOT.number()) }];
+    while nodes.len() < HALL {
+        let at = random.below(nodes.len() as u64).min(random.below(nodes.len() as u64)) as usize;
+        let answer = if random.below(2) == 0 { router(nodes[at]) } else { host(nodes[at]) };
+        nodes[at] = answer.node;
+        if answer.refusal == 0 {
+            nodes.push(unsafe { sys::pasa_fresh(answer.child) });
+        }
+    }
+    nodes
+}
+
+fn main() {
+    let random = &mut Random(2);
+    println!("| function | proved, ns | Rust called, ns | ratio | Rust inlined, ns | ratio |\n|---|---|---|---|---|---|");
+
+    // A node of the hall with many children, and destinations of the whole hall.
+    let hall = hall(random);
+    let routers = |node: &&Node| node.address > 1 && node.address % 2 == 0;
+    let node = *hall.iter().filter(routers).max_by_key(|node| node.routers + node.hosts).unwrap();
+    let mut anyone = || hall[random.below(HALL as u64) as usize];
+    let destinations: Vec<u64> = (0..INPUTS).map(|_| anyone().address).collect();
+    // Destinations that begin with the node's address: most are below a child that isn't given.
+    let below: Vec<u64> = (0..INPUTS)
+        .map(|_| {
+            let more = random.below(u64::from(node.address.leading_zeros())) as u32;
+            node.address << more | random.next() & ((1 << more) - 1)
+        })
+        .collect();
+    let (mut nodes, mut actions, mut refusals) = (vec![0; INPUTS], vec![0; INPUTS], vec![0; INPUTS]);
+    let (mut nodes2, mut actions2, mut refusals2) = (vec![0; INPUTS], vec![0; INPUTS], vec![0; INPUTS]);
+    let batch = |destinations: &[u64], nodes: &mut [u64], actions: &mut [u8], refusals: &mut [u8]| unsafe {
+        sys::pasa_next_hops(
+            node,
+            destinations.as_ptr(),
+            destinations.len(),
+            nodes.as_mut_ptr(),
+            nodes.len(),
+            actions.as_mut_ptr(),
+            actions.len(),
+            refusals.as_mut_ptr(),
+            refusals.len(),
+        )
+    };
+    for (name, destinations) in [("in the hall", &destinations), ("below the node", &below)] {
+        for d in destinations {
+            assert_eq!(next_hop(node, *d), simple::next_hop(node, *d), "{node:?} {d:#b}");
+        }
+        assert_eq!(batch(destinations, &mut nodes, &mut actions, &mut refusals), INPUTS);
+        simple::next_hops(node, destinations, &mut nodes2, &mut actions2, &mut refusals2);
+        assert!(nodes == nodes2 && actions == actions2 && refusals == refusals2);
+        row(
+            &format!("next hop, one call, {name}"),
+            times([
+                each!(destinations, |d| next_hop(node, *d)),
+                each!(destinations, |d| called_next_hop(node, *d)),
+                each!(destinations, |d| simple::next_hop(black_box(node), *d)),
+            ]),
+        );
+        let [proved, rust] = times([
+            &mut || {
+                black_box(batch(black_box(destinations), &mut nodes, &mut actions, &mut refusals));
+            },
+            &mut || {
+                black_box(called_next_hops(node, black_box(destinations), &mut nodes2, &mut actions2, &mut refusals2));
+            },
+        ]);
+        println!("| next hop, batch, {name} | {proved:.2} | {rust:.2} | {:.2} | | |", proved / rust);
+    }
+
+    let records: Vec<Node> = (0..INPUTS).map(|_| hall[random.below(HALL as u64) as usize]).collect();
+    for node in &records {
+        assert_eq!(router(*node), simple::child(*node, false), "{node:?}");
+        assert_eq!(host(*node), simple::child(*node, true), "{node:?}");
+    }
+    row(
+        "child, a router",
+        times([
+            each!(records, |node| router(*node)),
+            each!(records, |node| called_router(*node)),
+            each!(records, |node| simple::child(*node, false)),
+        ]),
+    );
+    row(
+        "child, a host",
+        times([
+            each!(records, |node| host(*node)),
+            each!(records, |node| called_host(*node)),
+            each!(records, |node| simple::child(*node, true)),
+        ]),
+    );
+
+    let addresses: Vec<u64> = (0..INPUTS).map(|_| random.address()).collect();
+    let mut out = [0; 11];
+    let mut out2 = [0; 11];
+    let mut out3 = [0; 11];
+    let packets: Vec<Vec<u8>> = addresses
+        .iter()
+        .map(|a| {
+            let count = header_write(*a, &mut out).count;
+            assert_eq!(simple::header_write(*a, &mut out2).count, count);
+            assert_eq!(out[..count], out2[..count]);
+            let mut packet = out[..count].to_vec();
+            packet.resize(64, 0);
+            assert_eq!(header_read(&packet), simple::header_read(&packet));
+            packet
+        })
+        .collect();
+    row(
+        "header write",
+        times([
+            each!(addresses, |a| header_write(*a, black_box(&mut out))),
+            each!(addresses, |a| called_header_write(*a, black_box(&mut out2))),
+            each!(addresses, |a| simple::header_write(*a, black_box(&mut out3))),
+        ]),
+    );
+    row(
+        "header read",
+        times([each!(packets, |p| header_read(p)), each!(packets, |p| called_header_read(p)), each!(packets, |p| simple::header_read(p))]),
+    );
+
+    let mut words = [0; 126];
+    let mut words2 = [0; 126];
+    let mut words3 = [0; 126];
+    let pairs: Vec<(u64, u64)> = (0..INPUTS).map(|i| (destinations[i], destinations[INPUTS - 1 - i])).collect();
+    let long: Vec<(u64, u64)> = (0..INPUTS).map(|_| (random.address(), random.address())).collect();
+    for (name, pairs) in [("path, in the hall", &pairs), ("path, any addresses", &long)] {
+        for (a, d) in pairs {
+            let listed = path(*a, *d, &mut words);
+            assert_eq!(listed, simple::path(*a, *d, &mut words2), "{a:#b} {d:#b}");
+            assert_eq!(words[..=listed.hops as usize], words2[..=listed.hops as usize], "{a:#b} {d:#b}");
+        }
+        row(
+            name,
+            times([
+                each!(pairs, |(a, d)| path(*a, *d, black_box(&mut words))),
+                each!(pairs, |(a, d)| called_path(*a, *d, black_box(&mut words2))),
+                each!(pairs, |(a, d)| simple::path(*a, *d, black_box(&mut words3))),
+            ]),
+        );
+    }
+
+    // What one would deploy otherwise: a table of the next hop for each node of the hall.
+    let mut map: HashMap<u64, u64> = HashMap::new();
+    let mut sorted: Vec<(u64, u64)> = Vec::new();
+    for row in &hall {
+        let hop = next_hop(node, row.address);
+        assert_eq!(hop.refusal, 0);
+        map.insert(row.address, hop.node);
+        sorted.push((row.address, hop.node));
+    }
+    sorted.sort();
+    sorted.shrink_to_fit();
+    let mut nodes3 = vec![0; INPUTS];
+    let [proved, hashed, searched] = times([
+        &mut || {
+            black_box(batch(black_box(&destinations), &mut nodes, &mut actions, &mut refusals));
+        },
+        &mut || {
+            for (d, out) in black_box(&destinations).iter().zip(&mut nodes2) {
+                *out = map.get(d).copied().unwrap_or(0);
+            }
+        },
+        &mut || {
+            for (d, out) in black_box(&destinations).iter().zip(&mut nodes3) {
+                *out = sorted.binary_search_by_key(d, |row| row.0).map_or(0, |at| sorted[at].1);
+            }
+        },
+    ]);
+    // A slot of the map is a key, a value and one octet; it keeps an eighth of its slots free, and their number is a power of two.
+    let slots = (map.capacity() * 8).div_ceil(7).next_power_of_two();
+    println!("\n| next hop at one node of a hall of {HALL} | ns | state, octets |\n|---|---|---|");
+    println!("| proved, batch | {proved:.2} | {} |", size_of::<Node>());
+    println!("| hash map | {hashed:.2} | {} |", slots * 17);
+    println!("| sorted table | {searched:.2} | {} |", sorted.len() * 16);
+}

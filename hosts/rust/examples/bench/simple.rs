@@ -1,0 +1,179 @@
+//! The functions as one would write them in Rust by hand, on 64-bit numbers: straight from the rules, with the language's own means and
+//! without tricks.
+use pasa::sys::{Child, Hop, Listed, Node, Read, Written, DELIVERED, STOPPED, TO_CHILD, TO_PARENT};
+
+fn bit_length(address: u64) -> u32 {
+    64 - address.leading_zeros()
+}
+
+fn is_host(address: u64) -> bool {
+    address > 1 && address % 2 == 1
+}
+
+fn is_good(node: Node) -> bool {
+    if node.address == 0 {
+        return false;
+    }
+    if is_host(node.address) {
+        return node.routers == 0 && node.hosts == 0;
+    }
+    let room = 64 - bit_length(node.address);
+    u32::from(node.routers) <= room && u32::from(node.hosts) <= room
+}
+
+fn parent(address: u64) -> u64 {
+    if address <= 1 {
+        return 0;
+    }
+    // without the last bit, and without the ones before it
+    let rest = address / 2;
+    (rest >> rest.trailing_ones()).max(1)
+}
+
+#[inline]
+pub fn child(node: Node, host: bool) -> Child {
+    let refused = |refusal| Child { node, child: 0, refusal };
+    if !is_good(node) {
+        return refused(1);
+    }
+    if is_host(node.address) {
+        return refused(2);
+    }
+    let count = u32::from(if host { node.hosts } else { node.routers });
+    if bit_length(node.address) + count + 1 > 64 {
+        return refused(3);
+    }
+    let ones = (1u64 << count) - 1;
+    let child = ((node.address << count) | ones) << 1 | u64::from(host);
+    let node = if host { Node { hosts: node.hosts + 1, ..node } } else { Node { routers: node.routers + 1, ..node } };
+    Child { node, child, refusal: 0 }
+}
+
+#[inline]
+pub fn next_hop(node: Node, destination: u64) -> Hop {
+    let refused = |refusal| Hop { node: 0, refusal, action: STOPPED };
+    if !is_good(node) {
+        return refused(1);
+    }
+    if destination == 0 {
+        return refused(9);
+    }
+    if destination == node.address {
+        return Hop { node: node.address, refusal: 0, action: DELIVERED };
+    }
+    let up = || Hop { node: parent(node.address), refusal: 0, action: TO_PARENT };
+    if is_host(node.address) {
+        return up();
+    }
+    let length = bit_length(node.address);
+    let whole = bit_length(destination);
+    if whole <= length || destination >> (whole - length) != node.address {
+        return up();
+    }
+    // the bits behind the node's, one at a time, to the first 0 or to the last
+    let mut end = length;
+    loop {
+        end += 1;
+        if end == whole || (destination >> (whole - end)) % 2 == 0 {
+            break;
+        }
+    }
+    let child = destination >> (whole - end);
+    let count = if child % 2 == 0 { node.routers } else { node.hosts };
+    if end - length - 1 < u32::from(count) {
+        Hop { node: child, refusal: 0, action: TO_CHILD }
+    } else {
+        refused(7)
+    }
+}
+
+pub fn next_hops(node: Node, destinations: &[u64], nodes: &mut [u64], actions: &mut [u8], refusals: &mut [u8]) -> usize {
+    let mut count = 0;
+    for (((destination, node_out), action), refusal) in destinations.iter().zip(nodes).zip(actions).zip(refusals) {
+        let hop = next_hop(node, *destination);
+        *node_out = hop.node;
+        *action = hop.action;
+        *refusal = hop.refusal;
+        count += 1;
+    }
+    count
+}
+
+#[inline]
+pub fn header_write(address: u64, out: &mut [u8]) -> Written {
+    if address == 0 {
+        return Written { count: 0, refusal: 9 };
+    }
+    let size = bit_length(address).div_ceil(16) as usize * 2;
+    let count = 3 + size;
+    if out.len() < count {
+        return Written { count: 0, refusal: 10 };
+    }
+    out[0] = 0xF1;
+    out[1] = 0x80 | (size - 1) as u8;
+    out[2] = 15;
+    out[3..count].copy_from_slice(&address.to_be_bytes()[8 - size..]);
+    Written { count, refusal: 0 }
+}
+
+#[inline]
+pub fn header_read(packet: &[u8]) -> Read {
+    let refused = |refusal| Read { address: 0, place: 0, refusal };
+    let right: [fn(u8) -> bool; 3] = [|octet| octet == 0xF1, |octet| octet >> 5 == 4, |octet| octet == 15];
+    for (place, right) in right.iter().enumerate() {
+        match packet.get(place) {
+            None => return refused(4),
+            Some(octet) if !right(*octet) => return refused(5),
+            Some(_) => (),
+        }
+    }
+    let size = usize::from(packet[1] % 32) + 1;
+    if size > 8 || size % 2 != 0 {
+        return refused(6);
+    }
+    let Some(octets) = packet.get(3..3 + size) else {
+        return refused(4);
+    };
+    if octets[0] == 0 && octets[1] == 0 {
+        return refused(if size == 2 { 9 } else { 6 });
+    }
+    let address = octets.iter().fold(0, |number, octet| number << 8 | u64::from(*octet));
+    Read { address, place: 3 + size, refusal: 0 }
+}
+
+fn depth(address: u64) -> u32 {
+    bit_length(address) - address.count_ones() + u32::from(is_host(address))
+}
+
+#[inline]
+pub fn path(first: u64, second: u64, words: &mut [u64]) -> Listed {
+    if first == 0 || second == 0 {
+        return Listed { hops: 0, refusal: 9 };
+    }
+    // an ancestor's number is the smaller one, so the larger number goes up
+    let (mut a, mut d) = (first, second);
+    while a != d {
+        if a < d {
+            d = parent(d);
+        } else {
+            a = parent(a);
+        }
+    }
+    let top = a;
+    let up = (depth(first) - depth(top)) as usize;
+    let hops = up + (depth(second) - depth(top)) as usize;
+    if words.len() <= hops {
+        return Listed { hops: 0, refusal: 10 };
+    }
+    let mut a = first;
+    for word in &mut words[..=up] {
+        *word = a;
+        a = parent(a);
+    }
+    let mut d = second;
+    for word in words[up + 1..=hops].iter_mut().rev() {
+        *word = d;
+        d = parent(d);
+    }
+    Listed { hops: hops as u32, refusal: 0 }
+}

@@ -1,0 +1,93 @@
+//! The exports of libpasa.a as include/pasa.h declares them, over plain numbers: an address of zero and a record that no node can have may
+//! go in, and come back as refusals. A slice is a pointer and a length; the pointer is valid for so many elements, and what is written to
+//! overlaps nothing else that is handed in.
+
+/// A node's record.
+#[repr(C)]
+#[derive(Clone, Copy, Debug, PartialEq, Eq)]
+pub struct Node {
+    pub address: u64,
+    pub routers: u8,
+    pub hosts: u8,
+}
+
+/// A child's answer.
+#[repr(C)]
+#[derive(Clone, Copy, Debug, PartialEq, Eq)]
+pub struct Child {
+    pub node: Node,
+    pub child: u64,
+    pub refusal: u8,
+}
+
+/// A next hop's answer.
+#[repr(C)]
+#[derive(Clone, Copy, Debug, PartialEq, Eq)]
+pub struct Hop {
+    pub node: u64,
+    pub refusal: u8,
+    pub action: u8,
+}
+
+/// A writer's answer.
+#[repr(C)]
+#[derive(Clone, Copy, Debug, PartialEq, Eq)]
+pub struct Written {
+    pub count: usize,
+    pub refusal: u8,
+}
+
+/// A header reader's answer.
+#[repr(C)]
+#[derive(Clone, Copy, Debug, PartialEq, Eq)]
+pub struct Read {
+    pub address: u64,
+    pub place: usize,
+    pub refusal: u8,
+}
+
+/// An IPv6 reader's answer.
+#[repr(C)]
+#[derive(Clone, Copy, Debug, PartialEq, Eq)]
+pub struct Address {
+    pub address: u64,
+    pub refusal: u8,
+}
+
+/// A path's answer.
+#[repr(C)]
+#[derive(Clone, Copy, Debug, PartialEq, Eq)]
+pub struct Listed {
+    pub hops: u32,
+    pub refusal: u8,
+}
+
+/// What becomes of a packet, in [`Hop::action`].
+pub const STOPPED: u8 = 0;
+pub const DELIVERED: u8 = 1;
+pub const TO_PARENT: u8 = 2;
+pub const TO_CHILD: u8 = 3;
+
+extern "C" {
+    pub fn pasa_fresh(address: u64) -> Node;
+    pub fn pasa_child_router(node: Node) -> Child;
+    pub fn pasa_child_host(node: Node) -> Child;
+    pub fn pasa_next_hop(node: Node, destination: u64) -> Hop;
+    pub fn pasa_packet_next_hop(node: Node, packet: *const u8, packet_length: usize) -> Hop;
+    pub fn pasa_next_hops(
+        node: Node,
+        destinations: *const u64,
+        destinations_length: usize,
+        nodes: *mut u64,
+        nodes_length: usize,
+        actions: *mut u8,
+        actions_length: usize,
+        refusals: *mut u8,
+        refusals_length: usize,
+    ) -> usize;
+    pub fn pasa_header_write(address: u64, out: *mut u8, out_length: usize) -> Written;
+    pub fn pasa_header_read(packet: *const u8, packet_length: usize) -> Read;
+    pub fn pasa_ipv6_write(prefix: *const u8, prefix_length: usize, address: u64, out: *mut u8, out_length: usize) -> Written;
+    pub fn pasa_ipv6_read(prefix: *const u8, prefix_length: usize, ipv6: *const u8, ipv6_length: usize) -> Address;
+    pub fn pasa_path(first: u64, second: u64, words: *mut u64, words_length: usize) -> Listed;
+}

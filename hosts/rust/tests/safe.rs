@@ -1,0 +1,70 @@
+//! The safe types over the exports.
+use pasa::{Address, Hop, Node, Refusal};
+use std::error::Error;
+
+fn address(digits: &str) -> Address {
+    Address::new(u64::from_str_radix(digits, 2).unwrap()).unwrap()
+}
+
+#[test]
+fn zero_is_no_address() {
+    assert_eq!(Address::new(0), Err(Refusal::ZeroAddress));
+    assert_eq!(Address::new(1), Ok(Address::ROOT));
+}
+
+#[test]
+fn refusals_have_the_documents_numbers() {
+    assert_eq!(Refusal::of(0), None);
+    assert_eq!(Refusal::of(13), None);
+    for number in 1..=12 {
+        assert_eq!(Refusal::of(number).unwrap().number(), number);
+    }
+    let error: Box<dyn Error> = Box::new(Refusal::ChildNotGiven);
+    assert_eq!(error.to_string(), "refused 7: destination below this node, child not given");
+}
+
+#[test]
+fn a_refused_child_leaves_the_record() {
+    let mut host = Node::fresh(address("11"));
+    assert_eq!(host.router_child(), Err(Refusal::HostAsked));
+    assert_eq!(host, Node::fresh(address("11")));
+    let mut root = Node { hosts: 62, ..Node::fresh(Address::ROOT) };
+    assert_eq!(root.host_child().unwrap().number(), u64::MAX);
+    assert_eq!(root.host_child(), Err(Refusal::TooLong));
+    assert_eq!(root.hosts, 63);
+}
+
+#[test]
+fn next_hops() {
+    let root = Node { routers: 2, hosts: 2, ..Node::fresh(Address::ROOT) };
+    assert_eq!(root.next_hop(Address::ROOT), Ok(Hop::Deliver(Address::ROOT)));
+    assert_eq!(root.next_hop(address("110")), Ok(Hop::Child(address("110"))));
+    assert_eq!(root.next_hop(address("1110")), Err(Refusal::ChildNotGiven));
+    assert_eq!(Node::fresh(address("11")).next_hop(address("110")), Ok(Hop::Parent(Address::ROOT)));
+    assert_eq!(root.packet_next_hop(&[0xF1, 0x81, 0x0F, 0x00]), Err(Refusal::EndsEarly));
+    let (mut nodes, mut actions, mut refusals) = ([9; 2], [9; 3], [9; 3]);
+    assert_eq!(root.next_hops(&[0b110, 0b1110, 1], &mut nodes, &mut actions, &mut refusals), 2);
+    assert_eq!((nodes, actions, refusals), ([0b110, 0], [3, 0, 9], [0, 7, 9]));
+}
+
+#[test]
+fn headers_and_ipv6_forms() {
+    let mut out = [0; 16];
+    assert_eq!(pasa::write_header(address("111110"), &mut out), Ok(5));
+    assert_eq!(out[..5], [0xF1, 0x81, 0x0F, 0x00, 0x3E]);
+    assert_eq!(pasa::read_header(&out), Ok((address("111110"), 5)));
+    assert_eq!(pasa::write_header(address("111110"), &mut out[..4]), Err(Refusal::NoRoom));
+    let prefix = [0x20, 0x01, 0x0d, 0xb8, 0, 0, 0, 0];
+    assert_eq!(pasa::write_ipv6(&prefix, address("111110"), &mut out), Ok(16));
+    assert_eq!(std::net::Ipv6Addr::from(out).to_string(), "2001:db8::3e");
+    assert_eq!(pasa::read_ipv6(&prefix, &out), Ok(address("111110")));
+    assert_eq!(pasa::read_ipv6(&prefix[..7], &out), Err(Refusal::WrongLength));
+}
+
+#[test]
+fn paths() {
+    let mut words = [0; 126];
+    assert_eq!(pasa::path(address("10011"), address("101011"), &mut words), Ok(4));
+    assert_eq!(words[..5], [0b10011, 0b100, 0b10, 0b1010, 0b101011]);
+    assert_eq!(pasa::path(address("10011"), address("101011"), &mut words[..4]), Err(Refusal::NoRoom));
+}

@@ -1,0 +1,142 @@
+/* PASA addresses: children, next hops, packet headers, IPv6 forms and paths.
+ *
+ * The functions are those of libpasa.a, for x86-64, each proved to answer what the specification says for every input; a refusal is an
+ * answer like any other. Nothing is kept between calls and nothing is allocated, so every function may be called from any thread.
+ *
+ * An address is any number but zero: a string of 1 to 64 bits whose first bit is 1, right-justified. With a refusal every other number
+ * answered is 0, a node answered is the one handed in, and nothing lent is changed. Without one, only what is named below is written.
+ *
+ * What a caller owes is C's own: a pointer is valid for as many elements as its length says, and what a call writes to overlaps nothing else
+ * that it is handed. A null pointer with length 0 is fine. */
+#ifndef PASA_H
+#define PASA_H
+
+#include <stddef.h>
+#include <stdint.h>
+
+#ifdef __cplusplus
+extern "C" {
+#endif
+
+/* The longest length of an address in bits, and the root's address. */
+#define PASA_LONGEST 64
+#define PASA_ROOT UINT64_C(1)
+
+/* The most octets of a header, the octets of an IPv6 prefix and of an IPv6 address, and the most addresses of a path. */
+#define PASA_HEADER_MOST 11
+#define PASA_IPV6_PREFIX 8
+#define PASA_IPV6_WHOLE 16
+#define PASA_PATH_MOST 126
+
+/* The refusals, by the documents' numbers. */
+enum pasa_refusal {
+    PASA_DONE = 0,
+    PASA_BAD_RECORD = 1,      /* the node record is bad */
+    PASA_HOST_ASKED = 2,      /* a host is asked for a child */
+    PASA_TOO_LONG = 3,        /* the child would be longer than 64 bits */
+    PASA_ENDS_EARLY = 4,      /* the packet ends too early */
+    PASA_WRONG_START = 5,     /* one of the first three octets is wrong */
+    PASA_WRONG_SIZE = 6,      /* size not allowed, or more pairs than needed */
+    PASA_CHILD_NOT_GIVEN = 7, /* destination below this node, child not given */
+    PASA_OTHER_PREFIX = 8,    /* IPv6 prefix differs */
+    PASA_ZERO_ADDRESS = 9,    /* an address is zero */
+    PASA_NO_ROOM = 10,        /* lent output too short */
+    PASA_BAD_LINE = 11,       /* the path program's input isn't the one line it reads; no function here answers it */
+    PASA_WRONG_LENGTH = 12    /* an IPv6 address isn't 16 octets, or a prefix isn't 8 */
+};
+
+/* What becomes of a packet at a node. */
+enum pasa_action {
+    PASA_STOPPED = 0, /* with a refusal */
+    PASA_DELIVERED = 1,
+    PASA_TO_PARENT = 2,
+    PASA_TO_CHILD = 3
+};
+
+/* A node's record: its address with the router children and the host children given so far. */
+struct pasa_node {
+    uint64_t address;
+    uint8_t routers;
+    uint8_t hosts;
+};
+
+/* A child's answer: the record to go on with, and the child's address. */
+struct pasa_child {
+    struct pasa_node node;
+    uint64_t child;
+    uint8_t refusal; /* enum pasa_refusal, here and below */
+};
+
+/* A next hop's answer: the node passed to, on delivery the node itself. */
+struct pasa_hop {
+    uint64_t node;
+    uint8_t refusal;
+    uint8_t action; /* enum pasa_action */
+};
+
+/* A writer's answer: how many octets were written. */
+struct pasa_written {
+    size_t count;
+    uint8_t refusal;
+};
+
+/* A header reader's answer: the address, and the place where the payload begins. */
+struct pasa_read {
+    uint64_t address;
+    size_t place;
+    uint8_t refusal;
+};
+
+/* An IPv6 reader's answer: the address. */
+struct pasa_address {
+    uint64_t address;
+    uint8_t refusal;
+};
+
+/* A path's answer: its hops, one fewer than the addresses listed. */
+struct pasa_listed {
+    uint32_t hops;
+    uint8_t refusal;
+};
+
+/* The record that a node starts with: its address, and both counts 0. It refuses nothing; a record of address zero is bad. */
+struct pasa_node pasa_fresh(uint64_t address);
+
+/* Gives the next router child. The record answered takes the place of the one handed in. Refusals: 1, 2, 3. */
+struct pasa_child pasa_child_router(struct pasa_node node);
+
+/* Gives the next host child. The record answered takes the place of the one handed in. Refusals: 1, 2, 3. */
+struct pasa_child pasa_child_host(struct pasa_node node);
+
+/* The next hop at this node for a packet to the destination. Refusals: 1, 9, 7. */
+struct pasa_hop pasa_next_hop(struct pasa_node node, uint64_t destination);
+
+/* The next hop at this node for a packet, whose destination is the address in its header. Refusals: 1, then a reader's, then 7. */
+struct pasa_hop pasa_packet_next_hop(struct pasa_node node, const uint8_t *packet, size_t packet_length);
+
+/* The next hops at this node for many destinations: for each what pasa_next_hop answers, its three numbers at the same index of the three
+ * outputs. It does as many as the shortest of the four lengths allows, answers how many, and leaves the rest of the outputs as it was. */
+size_t pasa_next_hops(struct pasa_node node, const uint64_t *destinations, size_t destinations_length, uint64_t *nodes, size_t nodes_length,
+                      uint8_t *actions, size_t actions_length, uint8_t *refusals, size_t refusals_length);
+
+/* Writes the address's header, 5, 7, 9 or 11 octets, to the front of the buffer. Refusals: 9, 10. */
+struct pasa_written pasa_header_write(uint64_t address, uint8_t *out, size_t out_length);
+
+/* Reads the header at the front of a packet. Refusals: 4, 5, 6, 9, in the specification's order of reading. */
+struct pasa_read pasa_header_read(const uint8_t *packet, size_t packet_length);
+
+/* Writes the prefix, 8 octets, and the address behind it, 16 octets together, to the front of the buffer. Refusals: 12, 9, 10. */
+struct pasa_written pasa_ipv6_write(const uint8_t *prefix, size_t prefix_length, uint64_t address, uint8_t *out, size_t out_length);
+
+/* Reads an IPv6 address, 16 octets, that begins with the prefix, 8 octets. Refusals: 12, 8, 9. */
+struct pasa_address pasa_ipv6_read(const uint8_t *prefix, size_t prefix_length, const uint8_t *ipv6, size_t ipv6_length);
+
+/* Lists the path from the first address up to the deepest common ancestor-or-self and down to the second, both ends in it, at the front of
+ * the words. At most PASA_PATH_MOST addresses. Refusals: 9, 10. */
+struct pasa_listed pasa_path(uint64_t first, uint64_t second, uint64_t *words, size_t words_length);
+
+#ifdef __cplusplus
+}
+#endif
+
+#endif
