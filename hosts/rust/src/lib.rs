@@ -19,6 +19,17 @@
 //! # Ok(())
 //! # }
 //! ```
+//!
+//! The README's example:
+//!
+//! ```
+//! fn main() -> Result<(), pasa::Refusal> {
+//!     let mut root = pasa::Node::fresh(pasa::Address::ROOT);
+//!     let router = root.router_child()?;
+//!     println!("{:?}", root.next_hop(router)?);
+//!     Ok(())
+//! }
+//! ```
 use std::error::Error;
 use std::fmt;
 use std::num::NonZeroU64;
