@@ -1,4 +1,8 @@
 -- `pasa_ipv6_write` meets its contract, by those of the functions that it calls. Assumes nothing.
+use mathlib.Core.Path.{ap, _∙_}
+use Prim.Native.Nat.{ℕ}
+use Rattle.ipv6.specs.Form.{writing}
+use Rattle.pasa.specs.Bytes.{writeAnswer}
 use borrow.Author.Needs.{needs}
 use Rattle.pasa.proofs.bytes.pasa_ipv6_write.Statement.{statement}
 use Rattle.pasa.proofs.bytes.pasa_ipv6_write.Tie as tie
@@ -16,7 +20,15 @@ same-length : tie.Need-same-length
 same-length c = search needs
 
 returns : tie.Need-returns
-returns c = ((cc), (cc))
+returns c =
+    let written = c .before .before .before in
+    let at = written .before .before in
+    let args = at .before .before .before .args in
+    let prefix = args .prefix .now in
+    let buffer = args .out .now in (
+      c .write-answer .ensures ∙ ap writeAnswer (written .write .ensures .0 ∙ ap (λ (a : ℕ). writing prefix a buffer .answer) (at .of .ensures)),
+      written .write .ensures .1 ∙ ap (λ (a : ℕ). writing prefix a buffer .buffer) (at .of .ensures),
+    )
 
 pub pasa-ipv6-write-spec : {M : Type 1} → statement M
 pasa-ipv6-write-spec =

@@ -1,5 +1,6 @@
 -- `child_answer` meets its contract: the fields are those of `childAnswer`. Assumes nothing.
-use Rattle.pasa.specs.Children.{childAnswer}
+use mathlib.Core.Path.{ap}
+use Rattle.pasa.specs.Children.{NodeRecord, childAnswer}
 use borrow.Author.Needs.{needs}
 use Rattle.pasa.proofs.children.child_answer.Statement.{statement}
 use Rattle.pasa.proofs.children.child_answer.Tie as tie
@@ -9,7 +10,8 @@ record-of-requires c κs = search needs
 
 returns : tie.Need-returns
 unfolding childAnswer
-returns c = cc
+returns c =
+    ap (λ (n : NodeRecord). record { node = n; child = c .before .args .given .child .number; refusal = c .before .args .given .refusal }) (c .record-of .ensures)
 
 pub child-answer-spec : {M : Type 1} → statement M
 child-answer-spec = tie.close (tie.spec record-of-requires returns)

@@ -1,4 +1,9 @@
 -- `pasa_child_router` meets its contract, by those of the functions that it calls. Assumes nothing.
+use mathlib.Core.Path.{ap, _∙_}
+use Rattle.address.specs.declared.Kind.the-variants.{Router}
+use Rattle.node.specs.Node.{childOf}
+use Rattle.node.specs.declared.Node.{Node}
+use Rattle.pasa.specs.Children.{childAnswer}
 use borrow.Author.Needs.{needs}
 use Rattle.pasa.proofs.children.pasa_child_router.Statement.{statement}
 use Rattle.pasa.proofs.children.pasa_child_router.Tie as tie
@@ -13,7 +18,9 @@ child-answer-requires : tie.Need-child-answer-requires
 child-answer-requires c κs = search needs
 
 returns : tie.Need-returns
-returns c = cc
+returns c =
+    let given = c .before in
+    c .child-answer .ensures ∙ ap childAnswer (given .child .ensures ∙ ap (λ (n : Node). childOf n Router) (given .before .node-of .ensures))
 
 pub pasa-child-router-spec : {M : Type 1} → statement M
 pasa-child-router-spec =

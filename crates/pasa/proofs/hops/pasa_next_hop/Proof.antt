@@ -1,4 +1,9 @@
 -- `pasa_next_hop` meets its contract, by those of the functions that it calls. Assumes nothing.
+use mathlib.Core.Path.{ap, _∙_}
+use Prim.Native.Nat.{ℕ}
+use Rattle.node.specs.declared.Node.{Node}
+use Rattle.forward.specs.Forward.{nextHop}
+use Rattle.pasa.specs.Hops.{hopAnswer}
 use borrow.Author.Needs.{needs}
 use Rattle.pasa.proofs.hops.pasa_next_hop.Statement.{statement}
 use Rattle.pasa.proofs.hops.pasa_next_hop.Tie as tie
@@ -16,7 +21,10 @@ hop-answer-requires : tie.Need-hop-answer-requires
 hop-answer-requires c κs = search needs
 
 returns : tie.Need-returns
-returns c = cc
+returns c =
+    let hopped = c .before in
+    let at = hopped .before in
+    c .hop-answer .ensures ∙ ap hopAnswer (hopped .next-hop .ensures ∙ ap (λ (n : Node). nextHop n (at .of .result .number)) (at .before .node-of .ensures) ∙ ap (nextHop _) (at .of .ensures))
 
 pub pasa-next-hop-spec : {M : Type 1} → statement M
 pasa-next-hop-spec =

@@ -1,4 +1,8 @@
 -- `pasa_packet_next_hop` meets its contract, by those of the functions that it calls. Assumes nothing.
+use mathlib.Core.Path.{ap, _∙_}
+use Rattle.node.specs.declared.Node.{Node}
+use Rattle.packet.specs.Packet.{packetHop}
+use Rattle.pasa.specs.Hops.{hopAnswer}
 use borrow.Author.Needs.{needs}
 use Rattle.pasa.proofs.hops.pasa_packet_next_hop.Statement.{statement}
 use Rattle.pasa.proofs.hops.pasa_packet_next_hop.Tie as tie
@@ -13,7 +17,10 @@ hop-answer-requires : tie.Need-hop-answer-requires
 hop-answer-requires c κs = search needs
 
 returns : tie.Need-returns
-returns c = cc
+returns c =
+    let hopped = c .before in
+    let at = hopped .before in
+    c .hop-answer .ensures ∙ ap hopAnswer (hopped .next-hop .ensures ∙ ap (λ (n : Node). packetHop n (at .before .before .args .packet .now)) (at .node-of .ensures))
 
 pub pasa-packet-next-hop-spec : {M : Type 1} → statement M
 pasa-packet-next-hop-spec =

@@ -1,4 +1,7 @@
 -- `pasa_path` meets its contract, by that of the path call. Assumes nothing.
+use mathlib.Core.Path.{ap, _∙_}
+use Prim.Native.Nat.{ℕ}
+use Rattle.route.specs.Path.{Effect, listing}
 use Rattle.pasa.specs.Paths.{pathAnswer}
 use borrow.Author.Needs.{needs}
 use Rattle.pasa.proofs.paths.pasa_path.Statement.{statement}
@@ -18,7 +21,17 @@ same-length c = search needs
 
 returns : tie.Need-returns
 unfolding pathAnswer
-returns c = ((cc), (cc))
+returns c =
+    let listed = c .before .before in
+    let second = listed .before .before in
+    let first = second .before in
+    let args = first .before .before .args in
+    let words = args .words .now in
+    let d = second .of2 .result .number in
+    let both = ap (λ (a : ℕ). listing a d words) (first .of .ensures) ∙ ap (λ (b : ℕ). listing (args .first) b words) (second .of2 .ensures) in (
+      ap pathAnswer (listed .path .ensures .0 ∙ ap (λ (e : Effect). e .answer) both),
+      listed .path .ensures .1 ∙ ap (λ (e : Effect). e .words) both,
+    )
 
 pub pasa-path-spec : {M : Type 1} → statement M
 pasa-path-spec = tie.close (tie.spec of-requires of-requires-2 path-requires same-length returns)
