@@ -1,7 +1,9 @@
 -- `Node::is_good` meets its contract: its tests are those of `isGood`, in the same order.
-use mathlib.Core.Path.{sym}
+use mathlib.Core.Path.{_≡_, sym, _∙_}
+use mathlib.Core.Bool.{true, false}
 use native.Mathlib.Omega.{arith}
 use borrow.Author.Needs.{needs}
+use Rattle.address.specs.Address.{isHost}
 use Rattle.address.proofs.Numbers.{bitLength-le}
 use Rattle.node.proofs.ChildLaws.{isGood-zero, isGood-host-routers, isGood-host, isGood-routers, isGood-hosts}
 use Rattle.node.proofs.Node.is_good.Statement.{statement}
@@ -13,11 +15,17 @@ returns c = sym (isGood-zero _ (omega arith))
 is-host-requires : tie.Need-is-host-requires
 is-host-requires c κs = search needs
 
+host : (c : tie.Then2) → isHost (c .before .before .before .before .args .self .address .number) ≡ true
+host c = sym (c .before .is-host .ensures) ∙ c .if2 .taken
+
+not-host : (c : tie.Else2) → isHost (c .before .before .before .before .args .self .address .number) ≡ false
+not-host c = sym (c .before .is-host .ensures) ∙ c .if2 .left
+
 returns-2 : tie.Need-returns-2
-returns-2 c = sym (isGood-host-routers _ (omega arith) (cc) (omega arith))
+returns-2 c = sym (isGood-host-routers _ (omega arith) (host (c .before .before)) (c .if3 .taken))
 
 returns-3 : tie.Need-returns-3
-returns-3 c = sym (isGood-host _ (omega arith) (cc) (omega arith))
+returns-3 c = sym (isGood-host _ (omega arith) (host (c .before .before .before)) (omega arith))
 
 bit-length-requires : tie.Need-bit-length-requires
 bit-length-requires c κs = search needs
@@ -29,13 +37,13 @@ cast-if4 : tie.Need-cast-if4
 cast-if4 c = search needs
 
 returns-4 : tie.Need-returns-4
-returns-4 c = sym (isGood-routers _ (omega arith) (cc) (omega arith))
+returns-4 c = sym (isGood-routers _ (omega arith) (not-host (c .before .before .before)) (omega arith))
 
 cast-result : tie.Need-cast-result
 cast-result c = search needs
 
 returns-5 : tie.Need-returns-5
-returns-5 c = rw (c .before .before .before .bit-length .ensures) (sym (isGood-hosts _ (omega arith) (cc) (omega arith)))
+returns-5 c = rw (c .before .before .before .bit-length .ensures) (sym (isGood-hosts _ (omega arith) (not-host (c .before .before .before .before)) (omega arith)))
 
 pub is-good-spec : {M : Type 1} → statement M
 is-good-spec =
