@@ -5,6 +5,4 @@ pub mod Steps
 pub mod Answers
 pub mod SearchLaws
 pub mod Prefixes
-pub mod OctetLaws
-pub mod SameLaws
 pub mod Promises

@@ -4,5 +4,4 @@ pub mod Bits
 pub mod Steps
 pub mod Address
 pub mod Reading
-pub mod Octets
 pub mod Search

@@ -7,7 +7,7 @@ use native.Mathlib.Omega.{arith}
 use borrow.Author.Tests.{eq-eqb, ne-eqb, eqb-true}
 use lib.Dec.{eqb}
 use Rattle.address.specs.Choice.{if_then_else_}
-use Rattle.address.specs.Octets.{value}
+use Rattle.octets.specs.Octets.{value}
 use Rattle.header.specs.Header.{Answer, reading, refused, found, startFault, addressFault, sizeTold, addressOctets, start}
 
 module _ (p : List ℕ) where

@@ -14,13 +14,13 @@ use lib.Dec.{lit<, lit≤, eqb}
 use lib.ListN.{length, take, drop, getD, length-append}
 use lib.Seq.{take-at, take-add}
 use Rattle.address.specs.Choice.{if_then_else_}
-use Rattle.address.specs.declared.octets.Written.{Written}
+use Rattle.octets.specs.declared.Written.{Written}
 use Rattle.address.specs.Bits.{bits, bitsIn}
 use Rattle.address.specs.Address.{bitLength}
 use Rattle.address.specs.Reading.{IsAddress}
-use Rattle.address.specs.Octets.{octets, value, AreOctets, Effect, write, wrote, refuseWriting}
+use Rattle.octets.specs.Octets.{octets, value, AreOctets, Effect, write, wrote, refuseWriting}
 use Rattle.address.proofs.ChoiceLaws.{if-zero}
-use Rattle.address.proofs.OctetLaws.{length-octets, value-octets-of-lt, octets-octets, octets-value, value-lt, value-fits, value-lt-of-zeros, value-ge-of-zeros}
+use Rattle.octets.proofs.OctetLaws.{length-octets, value-octets-of-lt, octets-octets, octets-value, value-lt, value-fits, value-lt-of-zeros, value-ge-of-zeros}
 use Rattle.header.specs.Header.{header, place, size, unit, most, start, page, critical, type, sizeAllowed, writing, reading, found, refused, Answer, startFault, inOrder, isCritical, sizeTold, addressFault, zeroFault, addressOctets}
 use Rattle.header.specs.RoundTrip.{RoundTrip}
 use Rattle.header.specs.WrongWriters.{silentWriter, refusingWriter}

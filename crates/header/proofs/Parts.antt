@@ -9,9 +9,9 @@ use borrow.Author.Tests.{not-false, ltb-false}
 use lib.Dec.{ltb}
 use lib.ListN.{length, take, drop, length-take, length-drop}
 use Rattle.address.specs.Choice.{if_then_else_}
-use Rattle.address.specs.Octets.{AreOctets}
+use Rattle.octets.specs.Octets.{AreOctets}
 use Rattle.address.proofs.ChoiceLaws.{if-zero}
-use Rattle.address.proofs.OctetLaws.{take-octets, drop-octets}
+use Rattle.octets.proofs.OctetLaws.{take-octets, drop-octets}
 use Rattle.header.specs.Header.{addressOctets, addressFault, zeroFault, sizeAllowed, start}
 
 pub length-addressOctets : (s : ℕ) (p : List ℕ) → start + s ≤ length p → length (addressOctets s p) ≡ s

@@ -5,9 +5,9 @@ use mathlib.Core.List.{List}
 use Prim.Native.Nat.{ℕ}
 use contract.Lifetimes.{Lfts}
 use denote.Ref.{RefT, now}
-use Rattle.address.specs.Octets.{Effect}
+use Rattle.octets.specs.Octets.{Effect}
 use Rattle.address.specs.declared.Address.{Address}
-use Rattle.address.specs.declared.octets.Written.{Written}
+use Rattle.octets.specs.declared.Written.{Written}
 use Rattle.header.specs.declared.Reading.{Reading}
 use Rattle.header.specs.Header.{writing, Answer, foundCase, refusedCase, answer, reading}
 use Rattle.header.proofs.Cases.{reading-refused}

@@ -8,8 +8,8 @@ use native.Mathlib.Omega.{arith}
 use borrow.Author.Tests.{eq-eqb, ne-eqb, lt-ltb, le-ltb}
 use borrow.Rule.Slice.PartMut.{putMid}
 use lib.ListN.{length, take, drop, set}
-use Rattle.address.specs.Octets.{octets, Effect, refuseWriting, write}
-use Rattle.address.proofs.OctetLaws.{length-octets}
+use Rattle.octets.specs.Octets.{octets, Effect, refuseWriting, write}
+use Rattle.octets.proofs.OctetLaws.{length-octets}
 use Rattle.header.specs.Header.{header, place, size, writing, start, page, critical, type}
 
 pub length-header : (a : ℕ) → length (header a) ≡ place a

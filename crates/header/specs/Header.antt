@@ -8,7 +8,7 @@ use lib.ListN.{length, take, drop, getD}
 use lib.Dec.{eqb, ltb, leb}
 use Rattle.address.specs.Choice.{if_then_else_}
 use Rattle.address.specs.Address.{bitLength}
-use Rattle.address.specs.Octets.{octets, value, Effect, refuseWriting, write}
+use Rattle.octets.specs.Octets.{octets, value, Effect, refuseWriting, write}
 pub use Rattle.header.specs.declared.Reading.{Reading}
 pub use Rattle.header.specs.declared.Reading.the-variants.{Found as foundCase, Refused as refusedCase}
 

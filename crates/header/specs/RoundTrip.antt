@@ -5,7 +5,7 @@ use mathlib.Core.List.{List}
 use Prim.Native.Nat.{ℕ, _≤_}
 use lib.ListN.{length, take}
 use Rattle.address.specs.Reading.{IsAddress}
-use Rattle.address.specs.Octets.{Effect, AreOctets, wrote}
+use Rattle.octets.specs.Octets.{Effect, AreOctets, wrote}
 use Rattle.header.specs.Header.{Answer, found, place}
 
 -- the address, and the lent buffer as it comes

@@ -1,7 +1,7 @@
 -- Two wrong writers, which demand 2 must exclude.
 use mathlib.Core.List.{List}
 use Prim.Native.Nat.{ℕ}
-use Rattle.address.specs.Octets.{Effect, wrote, refuseWriting}
+use Rattle.octets.specs.Octets.{Effect, wrote, refuseWriting}
 use Rattle.header.specs.Header.{place}
 
 -- "One that writes no header yet says done": the buffer stays as it was

@@ -1,6 +1,6 @@
 // The packet header: what the octets are, in which order they are checked and what each fault is numbered, stands in specs/Header.antt.
 use address::Address;
-use address::octets::Written;
+use octets::Written;
 ghost use mathlib.Core.Path.{_≡_};
 ghost use Prim.Native.Nat.{_≤_};
 ghost use lib.ListN.{length};
@@ -62,7 +62,7 @@ pub fn write(address: Address, out: &mut [u8]) -> Written
     out[0] = PAGE;
     out[1] = CRITICAL * 32 + (size - 1) as u8;
     out[2] = TYPE;
-    address::octets::put(address.number, &mut out[START..end]);
+    octets::put(address.number, &mut out[START..end]);
     Written {
         refusal: 0,
         count: end,
@@ -101,12 +101,12 @@ fn zero_fault(octets: &[u8]) -> u8
     ensures { λ r. ⌜ r ≡ zeroFault (length (now (octets .entry))) (now (octets .entry)) ⌝ }
 {
     if octets.len() == UNIT {
-        if address::octets::get(octets) == 0 {
+        if octets::get(octets) == 0 {
             return address::ZERO_ADDRESS;
         }
         return 0;
     }
-    if address::octets::get(&octets[..UNIT]) == 0 {
+    if octets::get(&octets[..UNIT]) == 0 {
         return WRONG_SIZE;
     }
     0
@@ -144,6 +144,6 @@ pub fn read(packet: &[u8]) -> Reading
         return Reading::Refused(wrong_address);
     }
     let end = START + size;
-    let number = address::octets::get(&packet[START..end]);
+    let number = octets::get(&packet[START..end]);
     Reading::Found(Address::of(number), end)
 }

@@ -12,10 +12,10 @@ use borrow.Author.Tests.{not-false, eqb-true, eqb-false, ne-eqb}
 use Rattle.address.specs.Choice.{if_then_else_}
 use Rattle.address.specs.Reading.{IsAddress}
 use Rattle.address.specs.Address.{Answer, validAnswer, refusedAnswer, made}
-use Rattle.address.specs.Octets.{octets, value, joined, same, AreOctets, wrote, write, refuseWriting}
-use Rattle.address.specs.declared.octets.Written.{Written}
-use Rattle.address.proofs.OctetLaws.{octets-value, value-octets-of-lt, value-fits, drop-octets}
-use Rattle.address.proofs.SameLaws.{same-true}
+use Rattle.octets.specs.Octets.{octets, value, joined, same, AreOctets, wrote, write, refuseWriting}
+use Rattle.octets.specs.declared.Written.{Written}
+use Rattle.octets.proofs.OctetLaws.{octets-value, value-octets-of-lt, value-fits, drop-octets}
+use Rattle.octets.proofs.SameLaws.{same-true}
 use Rattle.ipv6.specs.Form.{half, whole, form, writing, reading}
 use Rattle.ipv6.specs.RoundTrip.{RoundTrip}
 use Rattle.ipv6.specs.WrongWriters.{silentWriter, refusingWriter}

@@ -6,9 +6,9 @@ use Prim.Native.Nat.{ℕ, _≤_, _<_}
 use lib.ListN.{length, take, drop, length-append}
 use borrow.Author.Tests.{eq-eqb, ne-eqb, lt-ltb, le-ltb}
 use Rattle.address.specs.Address.{refusedAnswer, made}
-use Rattle.address.specs.Octets.{value, refuseWriting, write}
-use Rattle.address.proofs.OctetLaws.{length-octets}
-use Rattle.address.proofs.SameLaws.{same-refl, same-ne}
+use Rattle.octets.specs.Octets.{value, refuseWriting, write}
+use Rattle.octets.proofs.OctetLaws.{length-octets}
+use Rattle.octets.proofs.SameLaws.{same-refl, same-ne}
 use Rattle.ipv6.specs.Form.{half, whole, form, writing, reading}
 
 pub length-form : (prefix : List ℕ) (a : ℕ) → length prefix ≡ half → length (form prefix a) ≡ whole

@@ -8,7 +8,7 @@ use denote.Ref.{RefT, now}
 use Rattle.address.specs.Address.{answer}
 use Rattle.address.specs.declared.Address.{Address}
 use Rattle.address.specs.declared.Made.{Made}
-use Rattle.address.specs.declared.octets.Written.{Written}
+use Rattle.octets.specs.declared.Written.{Written}
 use Rattle.ipv6.specs.Form.{writing, reading}
 use Rattle.ipv6.proofs.write.Reads as write-reads
 use Rattle.ipv6.proofs.read.Reads as read-reads

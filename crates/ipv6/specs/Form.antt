@@ -7,7 +7,7 @@ use lib.ListN.{length, take, drop}
 use lib.Dec.{eqb, ltb}
 use Rattle.address.specs.Choice.{if_then_else_}
 use Rattle.address.specs.Address.{Answer, validAnswer, refusedAnswer}
-use Rattle.address.specs.Octets.{octets, value, same, Effect, refuseWriting, write}
+use Rattle.octets.specs.Octets.{octets, value, same, Effect, refuseWriting, write}
 
 -- a prefix's octets, the address's octets behind them, and both
 abbrev pub half : ℕ

@@ -6,7 +6,7 @@ use Prim.Native.Nat.{ℕ, _≤_}
 use lib.ListN.{length, take}
 use Rattle.address.specs.Reading.{IsAddress}
 use Rattle.address.specs.Address.{Answer, validAnswer}
-use Rattle.address.specs.Octets.{Effect, AreOctets, wrote}
+use Rattle.octets.specs.Octets.{Effect, AreOctets, wrote}
 use Rattle.ipv6.specs.Form.{half, whole}
 
 -- the prefix, the address, and the lent buffer as it comes

@@ -1,5 +1,5 @@
 -- Writers that a claim about writing must not let pass.
-use Rattle.address.specs.Octets.{wrote, refuseWriting}
+use Rattle.octets.specs.Octets.{wrote, refuseWriting}
 use Rattle.ipv6.specs.Form.{whole}
 use Rattle.ipv6.specs.RoundTrip.{Writer}
 

@@ -1,7 +1,7 @@
 // The IPv6 form of an address, both ways: specs/Form.antt says what it is, in which order the checks go and what each refusal is numbered.
 use address::Address;
 use address::Made;
-use address::octets::Written;
+use octets::Written;
 ghost use mathlib.Core.Path.{_≡_};
 ghost use Rattle.address.specs.Address.{answer};
 ghost use Rattle.ipv6.specs.Form.{writing, reading};
@@ -41,9 +41,9 @@ pub fn write(prefix: &[u8], address: Address, out: &mut [u8]) -> Written
         };
     }
     // The prefix goes over as one number of 64 bits.
-    let number = address::octets::get(prefix);
-    address::octets::put(number, &mut out[..HALF]);
-    address::octets::put(address.number, &mut out[HALF..WHOLE]);
+    let number = octets::get(prefix);
+    octets::put(number, &mut out[..HALF]);
+    octets::put(address.number, &mut out[HALF..WHOLE]);
     Written {
         refusal: 0,
         count: WHOLE,
@@ -60,8 +60,8 @@ pub fn read(prefix: &[u8], ipv6: &[u8]) -> Made
     if ipv6.len() != WHOLE {
         return Made::Refused(WRONG_LENGTH);
     }
-    if address::octets::get(&ipv6[..HALF]) != address::octets::get(prefix) {
+    if octets::get(&ipv6[..HALF]) != octets::get(prefix) {
         return Made::Refused(OTHER_PREFIX);
     }
-    Address::new(address::octets::get(&ipv6[HALF..]))
+    Address::new(octets::get(&ipv6[HALF..]))
 }

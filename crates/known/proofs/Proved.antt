@@ -4,7 +4,7 @@ use Rattle.known.specs.Known.{KnownValues, table, afterAll}
 use Rattle.address.specs.Bits.{lastBit, bitsIn, bits, digit, numberFrom, number}
 use Rattle.address.specs.Steps.{lastStep, cut, stepsOf, steps, lastOf, stepBits, spelled, addressOf}
 use Rattle.address.specs.Address.{bitLength, endsInOne, isHost, above, parent}
-use Rattle.address.specs.Octets.{octets, joined, value, refuseWriting, write}
+use Rattle.octets.specs.Octets.{octets, joined, value, refuseWriting, write}
 use Rattle.address.specs.Search.{lookedAt, sameBit, isPrefix, kindLooked, indexLooked}
 use Rattle.node.specs.Node.{fresh, withCounts, count, raised, isGood, childBits, refuse, childOf}
 use Rattle.forward.specs.Forward.{toward, rules, nextHop}

@@ -7,7 +7,7 @@ use lib.ListN.{length, drop}
 use Rattle.address.specs.declared.Kind.{Kind}
 use Rattle.address.specs.declared.Kind.the-variants.{Router, Host}
 use Rattle.address.specs.Bits.{root}
-use Rattle.address.specs.Octets.{Effect, write}
+use Rattle.octets.specs.Octets.{Effect, write}
 use Rattle.node.specs.Node.{fresh, withCounts, childOf}
 use Rattle.node.specs.declared.Node.{Node}
 use Rattle.forward.specs.Forward.{Answer, upTo, downTo, refused, nextHop}

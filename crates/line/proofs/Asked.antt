@@ -15,7 +15,7 @@ use Rattle.address.specs.Choice.{if_then_else_}
 use Rattle.address.specs.Bits.{Bit, O, I, number, longest}
 use Rattle.address.specs.Reading.{IsAddressString}
 use Rattle.address.proofs.Numbers.{number-address}
-use Rattle.address.proofs.SameLaws.{same-refl, same-ne}
+use Rattle.octets.proofs.SameLaws.{same-refl, same-ne}
 use Rattle.line.specs.Line.{digitOne, digitZero, space, newline, digitsOf, afterDigits, areAddress, afterSpace, asked, between, unreadable}
 
 -- ---- digits that are an address

@@ -11,10 +11,10 @@ use lib.Seq.{drop-at}
 use lib.Dec.{eqb}
 use Rattle.address.specs.Choice.{if_then_else_}
 use Rattle.address.specs.Bits.{Bit, O, I, bits, number}
-use Rattle.address.specs.Octets.{same}
+use Rattle.octets.specs.Octets.{same}
 use Rattle.address.specs.Reading.{IsAddressString, IsAddress}
 use Rattle.address.proofs.Numbers.{bits-string, bits-number, number-bits, number-address}
-use Rattle.address.proofs.SameLaws.{same-refl, same-true}
+use Rattle.octets.proofs.SameLaws.{same-refl, same-true}
 use Rattle.route.specs.Path.{path}
 use Rattle.route.proofs.Length.{at-most-126}
 use Rattle.line.specs.Line.{digitZero, digitOne, space, newline, isDigit, digitsOf, afterDigits, areAddress, afterSpace, Asked, between, unreadable, asked, digit, addressText, refusedText, textFor, outputText}

@@ -4,7 +4,7 @@ use mathlib.Core.List.{List}
 use Prim.Native.Nat.{ℕ}
 use contract.Lifetimes.{Lfts}
 use denote.Ref.{RefT, now}
-use Rattle.address.specs.declared.octets.Written.{Written}
+use Rattle.octets.specs.declared.Written.{Written}
 use Rattle.line.specs.Line.{reply}
 use Rattle.line.proofs.answer.Reads as answer-reads
 

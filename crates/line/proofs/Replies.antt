@@ -9,8 +9,8 @@ use lib.ListN.{length, take, drop}
 use lib.Seq.{take-at}
 use lib.Dec.{ltb}
 use Rattle.address.specs.Choice.{if_then_else_}
-use Rattle.address.specs.declared.octets.Written.{Written}
-use Rattle.address.specs.Octets.{Effect, refuseWriting, write}
+use Rattle.octets.specs.declared.Written.{Written}
+use Rattle.octets.specs.Octets.{Effect, refuseWriting, write}
 use Rattle.address.specs.Reading.{IsAddress}
 use Rattle.route.specs.Path.{path, hops, listing}
 use Rattle.route.proofs.PathLaws.{hops-path}

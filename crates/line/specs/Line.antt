@@ -8,7 +8,7 @@ use lib.ListN.{length, drop}
 use lib.Dec.{eqb, leb, ltb}
 use Rattle.address.specs.Choice.{if_then_else_}
 use Rattle.address.specs.Bits.{Bit, O, I, bits, number, longest}
-use Rattle.address.specs.Octets.{Effect, refuseWriting, write, same}
+use Rattle.octets.specs.Octets.{Effect, refuseWriting, write, same}
 use Rattle.route.specs.Path.{path, hops}
 
 -- ASCII

@@ -3,13 +3,13 @@ mod read;
 mod write;
 
 use address::Address;
-use address::octets::Written;
+use octets::Written;
 ghost use mathlib.Core.Path.{_≡_};
 ghost use Prim.Native.Nat.{_<_};
 ghost use lib.ListN.{length};
 ghost use lib.Dec.{ltb};
 ghost use Rattle.address.specs.Choice.{if_then_else_};
-ghost use Rattle.address.specs.Octets.{Effect, refuseWriting, write};
+ghost use Rattle.octets.specs.Octets.{Effect, refuseWriting, write};
 ghost use Rattle.route.specs.Path.{path};
 ghost use Rattle.line.specs.Line.{refusedText, pathText, reply};
 

@@ -1,6 +1,6 @@
 -- The answers about octets as structs of plain numbers: the same numbers, in fields of the same names.
 use Rattle.address.specs.Address.{Answer as Form}
-use Rattle.address.specs.declared.octets.Written.{Written}
+use Rattle.octets.specs.declared.Written.{Written}
 use Rattle.header.specs.Header.{Answer as Header}
 use Rattle.pasa.specs.declared.bytes.WriteAnswer.{WriteAnswer}
 use Rattle.pasa.specs.declared.bytes.ReadAnswer.{ReadAnswer}

@@ -1,8 +1,8 @@
 // The packet header and the IPv6 form, both ways.
 use address::Address;
 use address::Made;
-use address::octets::Written;
 use header::Reading;
+use octets::Written;
 ghost use mathlib.Core.Path.{_≡_};
 ghost use Rattle.header.specs.Header.{writing, reading};
 ghost use Rattle.ipv6.specs.Form.{writing as formWriting, reading as formReading};

@@ -8,7 +8,7 @@ use borrow.Author.Tests.{ltb-false}
 use lib.ListN.{length}
 use lib.Dec.{eqb, ltb}
 use Rattle.address.specs.Choice.{if_then_else_}
-use Rattle.address.specs.Octets.{refuseWriting, write}
+use Rattle.octets.specs.Octets.{refuseWriting, write}
 use Rattle.header.specs.Header.{header, place, writing}
 use Rattle.header.proofs.Writing.{length-header}
 

@@ -14,11 +14,11 @@ use Rattle.address.specs.declared.Kind.{Kind}
 use Rattle.address.specs.Bits.{root}
 use Rattle.address.specs.Steps.{Step, child, steps, addressOf}
 use Rattle.address.specs.Address.{depth, parent}
-use Rattle.address.specs.Octets.{AreOctets}
+use Rattle.octets.specs.Octets.{AreOctets}
 use Rattle.address.specs.Reading.{IsAddress, OnWay}
 use Rattle.address.proofs.Steps.{addressOf-steps, addressOf-root}
 use Rattle.address.proofs.Prefixes.{steps-injective}
-use Rattle.address.proofs.OctetLaws.{append-octets, octets-octets}
+use Rattle.octets.proofs.OctetLaws.{append-octets, octets-octets}
 use Rattle.header.specs.Header.{header, place, size}
 use Rattle.header.proofs.Size.{size-le, size-ge}
 use Rattle.header.proofs.Demand2.{reading-header, header-read}

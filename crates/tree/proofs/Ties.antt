@@ -10,10 +10,10 @@ use lib.Dec.{eqb, ltb}
 use contract.Lifetimes.{Lfts}
 use denote.Ref.{RefT, now}
 use Rattle.address.specs.Choice.{if_then_else_}
-use Rattle.address.specs.Octets.{Effect as OctetEffect, refuseWriting, write}
+use Rattle.octets.specs.Octets.{Effect as OctetEffect, refuseWriting, write}
 use Rattle.address.specs.declared.Address.{Address}
 use Rattle.address.specs.declared.Kind.{Kind}
-use Rattle.address.specs.declared.octets.Written.{Written}
+use Rattle.octets.specs.declared.Written.{Written}
 use Rattle.header.specs.declared.Reading.{Reading}
 use Rattle.header.specs.Header.{header, place, writing, reading, answer as readingAnswer}
 use Rattle.node.specs.declared.Node.{Node}

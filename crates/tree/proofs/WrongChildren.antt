@@ -10,7 +10,7 @@ use borrow.Author.Tests.{le-leb}
 use Rattle.address.specs.Bits.{bits, bitsIn, lastBit, digit, number, numberFrom, root}
 use Rattle.address.specs.Steps.{stepBits, lastOf}
 use Rattle.address.specs.Address.{bitLength, isHost, endsInOne}
-use Rattle.address.specs.Octets.{octets, value, joined}
+use Rattle.octets.specs.Octets.{octets, value, joined}
 use Rattle.address.specs.Search.{lookedAt, isPrefix, sameBit, kindLooked, indexLooked}
 use Rattle.address.specs.declared.Kind.{Kind}
 use Rattle.address.specs.declared.Kind.the-variants.{Router, Host}

@@ -6,7 +6,7 @@ use Rattle.address.specs.Bits.{root}
 use Rattle.address.specs.Steps.{Step, steps, addressOf}
 use Rattle.address.specs.Address.{depth}
 use Rattle.address.specs.Reading.{IsAddress}
-use Rattle.address.specs.Octets.{AreOctets}
+use Rattle.octets.specs.Octets.{AreOctets}
 use Rattle.header.specs.Header.{header}
 use Rattle.route.specs.Path.{path, hops}
 use Rattle.tree.specs.Tree.{ChildRule, Request, Tree, grown, addresses, InTree, AllDiffer, Walk}

@@ -4,7 +4,7 @@
 use Prim.Native.Nat.{ℕ, zero, suc}
 use mathlib.Core.Path.{_≡_}
 use mathlib.Core.List.{List, [], _∷_}
-use Rattle.address.specs.Octets.{AreOctets}
+use Rattle.octets.specs.Octets.{AreOctets}
 use Rattle.header.specs.Header.{reading, found}
 use Rattle.node.specs.declared.Node.{Node}
 use Rattle.forward.specs.Forward.{Action, delivers, toParent, toChild, stops, Answer}

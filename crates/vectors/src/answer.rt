@@ -54,13 +54,13 @@ pub(crate) fn binary(number: u64, value: &[u8], at: usize) -> usize {
 pub(crate) fn decimal(number: u64, value: &[u8], at: usize) -> usize {
     let mut digits = [0u8; 20];
     let count = io::decimal(number, &mut digits);
-    text(address::octets::get(&digits[0..count]), value, at)
+    text(octets::get(&digits[0..count]), value, at)
 }
 
 pub(crate) fn hexadecimal(o: u64, value: &[u8], at: usize) -> usize {
     let mut digits = [0u8; 16];
     let count = io::hex(o, 2, &mut digits);
-    text(address::octets::get(&digits[0..count]), value, at)
+    text(octets::get(&digits[0..count]), value, at)
 }
 
 // A refusal, and the number beside it where that is not 0.

@@ -5,11 +5,11 @@ use super::read::Numbers;
 use address::Address;
 use address::Kind;
 use address::Made;
-use address::octets::Written;
 use forward::Hop;
 use header::Reading;
 use node::Given;
 use node::Node;
+use octets::Written;
 use route::Listed;
 
 // "length", "depth", "is-host"

@@ -75,7 +75,7 @@ fn run(asked: &[u8], end: usize, name: u64, value: &[u8]) -> usize {
 
 fn answered(asked: &[u8], value: &[u8]) -> bool {
     let end = read::place(asked, b' ');
-    run(asked, end, address::octets::get(&asked[0..end]), value) == value.len()
+    run(asked, end, octets::get(&asked[0..end]), value) == value.len()
 }
 
 fn compared(asked: &[u8], value: &[u8]) -> u64 {

@@ -4,8 +4,8 @@ use mathlib.Core.List.{List}
 use Prim.Native.Nat.{ℕ, _+_, _%_, _^_}
 use native.Mathlib.Omega.{arith}
 use lib.ListN.{length}
-use Rattle.address.specs.Octets.{value, AreOctets}
-use Rattle.address.proofs.OctetLaws.{all-octets, value-mod}
+use Rattle.octets.specs.Octets.{value, AreOctets}
+use Rattle.octets.proofs.OctetLaws.{all-octets, value-mod}
 use Rattle.header.specs.Header.{answer, found, startFault, sizeTold, addressFault, addressOctets}
 use Rattle.header.proofs.Size.{sizeAllowed-le}
 use Rattle.header.proofs.Start.{startFault-length}
@@ -17,7 +17,7 @@ use Rattle.header.proofs.read.Tie as tie
 use Rattle.header.proofs.read.Reads as reads
 use Rattle.header.proofs.read.Lts as lts
 use Rattle.address.proofs.Address.of.Reads as of-reads
-use Rattle.address.proofs.octets.get.Reads as get-reads
+use Rattle.octets.proofs.get.Reads as get-reads
 use Rattle.header.proofs.address_fault.Reads as address-fault-reads
 use Rattle.header.proofs.start_fault.Reads as start-fault-reads
 

@@ -7,7 +7,7 @@ use native.Mathlib.Nat.{pos-of-ne-zero}
 use native.Mathlib.Omega.{arith}
 use lib.ListN.{length, length-set, length-take, length-drop}
 use Rattle.address.specs.Bits.{longest}
-use Rattle.address.specs.Octets.{octets, Effect, refuseWriting, write, wrote}
+use Rattle.octets.specs.Octets.{octets, Effect, refuseWriting, write, wrote}
 use Rattle.address.specs.Reading.{IsAddress}
 use Rattle.header.specs.Header.{size, place, header}
 use Rattle.header.proofs.Size.{size-le, size-ge}
@@ -17,7 +17,7 @@ use Rattle.header.proofs.write.Statement.{statement}
 use Rattle.header.proofs.write.Tie as tie
 use Rattle.header.proofs.write.Reads as reads
 use Rattle.header.proofs.write.Lts as lts
-use Rattle.address.proofs.octets.put.Reads as put-reads
+use Rattle.octets.proofs.put.Reads as put-reads
 use Rattle.header.proofs.size_of.Reads as size-of-reads
 
 -- an address that is not zero

@@ -7,15 +7,15 @@ use native.Mathlib.Omega.{arith}
 use borrow.Author.Tests.{eq-eqb, ne-eqb}
 use lib.ListN.{length, take, getD}
 use lib.Seq.{length-take-le}
-use Rattle.address.specs.Octets.{value, AreOctets}
-use Rattle.address.proofs.OctetLaws.{all-octets, take-octets, value-mod}
+use Rattle.octets.specs.Octets.{value, AreOctets}
+use Rattle.octets.proofs.OctetLaws.{all-octets, take-octets, value-mod}
 use Rattle.header.specs.Header.{zeroFault}
 use borrow.Author.Needs.{needs}
 use Rattle.header.proofs.zero_fault.Statement.{statement}
 use Rattle.header.proofs.zero_fault.Tie as tie
 use Rattle.header.proofs.zero_fault.Reads as reads
 use Rattle.header.proofs.zero_fault.Lts as lts
-use Rattle.address.proofs.octets.get.Reads as get-reads
+use Rattle.octets.proofs.get.Reads as get-reads
 
 -- the slice's elements are octets
 octets : (c : tie.After-shared-slice-known) → AreOctets (c .before .args .octets .now)

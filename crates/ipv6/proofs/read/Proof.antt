@@ -8,9 +8,9 @@ use native.Mathlib.Omega.{arith}
 use lib.ListN.{length, take, drop, length-take, length-drop}
 use lib.Seq.{length-take-le, take-all}
 use Rattle.address.specs.Address.{made}
-use Rattle.address.specs.Octets.{value, AreOctets}
-use Rattle.address.proofs.OctetLaws.{all-octets, take-octets, drop-octets, value-mod}
-use Rattle.address.proofs.SameLaws.{value-injective}
+use Rattle.octets.specs.Octets.{value, AreOctets}
+use Rattle.octets.proofs.OctetLaws.{all-octets, take-octets, drop-octets, value-mod}
+use Rattle.octets.proofs.SameLaws.{value-injective}
 use Rattle.ipv6.specs.Form.{half, whole}
 use Rattle.ipv6.proofs.FormLaws.{reading-prefix, reading-length, reading-other, reading-same}
 use Rattle.ipv6.proofs.read.Statement.{statement}

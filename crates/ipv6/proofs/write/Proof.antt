@@ -8,8 +8,8 @@ use borrow.Rule.Slice.PartMut.{putMid, midOf}
 use native.Mathlib.Omega.{arith}
 use lib.ListN.{length, take, drop, length-take, length-drop}
 use lib.Seq.{length-take-le, take-at, drop-at, drop-drop}
-use Rattle.address.specs.Octets.{octets, value, AreOctets, refuseWriting, wrote, write}
-use Rattle.address.proofs.OctetLaws.{all-octets, octets-value, value-mod}
+use Rattle.octets.specs.Octets.{octets, value, AreOctets, refuseWriting, wrote, write}
+use Rattle.octets.proofs.OctetLaws.{all-octets, octets-value, value-mod}
 use Rattle.ipv6.specs.Form.{half, whole, form}
 use Rattle.ipv6.proofs.FormLaws.{length-form, writing-length, writing-zero, writing-room, writing-done}
 use Rattle.ipv6.proofs.write.Statement.{statement}

@@ -6,7 +6,7 @@ use native.Mathlib.Omega.{arith}
 use borrow.Author.Tests.{lt-ltb, le-ltb}
 use borrow.Author.Needs.{needs}
 use lib.ListN.{length}
-use Rattle.address.specs.Octets.{refuseWriting, wrote, write}
+use Rattle.octets.specs.Octets.{refuseWriting, wrote, write}
 use Rattle.line.specs.Line.{refusedText}
 use Rattle.line.proofs.Stores.{sets-front}
 use Rattle.line.proofs.refuse.Statement.{statement}

@@ -8,7 +8,7 @@ use borrow.Author.Tests.{lt-ltb, le-ltb}
 use borrow.Author.Needs.{needs}
 use lib.ListN.{length, take, drop, length-append}
 use lib.Seq.{sets}
-use Rattle.address.specs.Octets.{refuseWriting, wrote, write}
+use Rattle.octets.specs.Octets.{refuseWriting, wrote, write}
 use Rattle.address.specs.Reading.{IsAddress}
 use Rattle.route.specs.declared.Listed.{Listed}
 use Rattle.route.specs.Path.{path, hops}

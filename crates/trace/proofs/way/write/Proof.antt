@@ -2,7 +2,7 @@
 use native.Mathlib.Omega.{arith}
 use mathlib.Core.Path.{ap}
 use lib.ListN.{length-take}
-use Rattle.address.specs.declared.octets.Written.{Written}
+use Rattle.octets.specs.declared.Written.{Written}
 use Rattle.trace.proofs.Writing.{written-le}
 use borrow.Author.Needs.{needs}
 use Rattle.trace.proofs.way.write.Statement.{statement}

@@ -4,7 +4,7 @@ use mathlib.Core.Bool.{Bool, true, false, _&&_}
 use mathlib.Core.List.{List, [], _∷_, _++_}
 use lib.ListN.{length, drop}
 use lib.Dec.{eqb}
-use Rattle.address.specs.declared.octets.Written.{Written}
+use Rattle.octets.specs.declared.Written.{Written}
 
 -- the last k octets of n
 unfoldable pub octets : ℕ → ℕ → List ℕ

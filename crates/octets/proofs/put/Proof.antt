@@ -7,11 +7,11 @@ use native.Mathlib.Omega.{arith}
 use mathlib.Core.List.{List, [], _∷_, _++_, append-nil, append-assoc}
 use lib.ListN.{length, drop, set, length-set}
 use lib.Seq.{drop-cons, drop-length, drop-set-lt, getD-set-same, lt-length-set}
-use Rattle.address.specs.Octets.{octets}
-use Rattle.address.proofs.octets.put.Statement.{statement}
-use Rattle.address.proofs.octets.put.Tie as tie
-use Rattle.address.proofs.octets.put.Reads as reads
-use Rattle.address.proofs.octets.put.Lts as lts
+use Rattle.octets.specs.Octets.{octets}
+use Rattle.octets.proofs.put.Statement.{statement}
+use Rattle.octets.proofs.put.Tie as tie
+use Rattle.octets.proofs.put.Reads as reads
+use Rattle.octets.proofs.put.Lts as lts
 
 -- from a place that was written on
 drop-set : (l : List ℕ) (i a : ℕ) → i < length l → drop i (set l i a) ≡ a ∷ drop (suc i) l

@@ -7,8 +7,8 @@ use Prim.Native.Nat.{ℕ}
 use lib.ListN.{length}
 use lib.Dec.{eqb}
 use borrow.Author.Tests.{eq-eqb, eqb-true}
-use Rattle.address.specs.Octets.{octets, value, same, AreOctets}
-use Rattle.address.proofs.OctetLaws.{octets-value}
+use Rattle.octets.specs.Octets.{octets, value, same, AreOctets}
+use Rattle.octets.proofs.OctetLaws.{octets-value}
 
 pub same-refl : (os : List ℕ) → same os os ≡ true
 unfolding same

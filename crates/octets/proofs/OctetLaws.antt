@@ -9,7 +9,7 @@ use mathlib.Core.List.{List, [], _∷_, _++_, append-nil, append-assoc}
 use lib.ListN.{length, take, drop, getD, length-append, length-drop, take-append-drop}
 use lib.Arith.{mod-mul, digits-lt, digits-div, digits-mod}
 use lib.Dec.{lit<}
-use Rattle.address.specs.Octets.{octets, joined, value, AreOctets}
+use Rattle.octets.specs.Octets.{octets, joined, value, AreOctets}
 
 pub length-octets : (k n : ℕ) → length (octets k n) ≡ k
 unfolding octets

@@ -9,13 +9,13 @@ use mathlib.Core.List.{List, [], _∷_, _++_}
 use lib.ListN.{length, take, getD}
 use lib.Seq.{take-suc, take-all}
 use lib.Pow.{mod-pow-add, mod-mod-pow}
-use Rattle.address.specs.Octets.{value, joined}
-use Rattle.address.proofs.OctetLaws.{value-snoc}
-use Rattle.address.proofs.octets.get.Statement.{statement}
-use Rattle.address.proofs.octets.get.Tie as tie
-use Rattle.address.proofs.octets.get.Reads as reads
-use Rattle.address.proofs.octets.get.Lts as lts
-use Rattle.address.proofs.octets.wide.Reads as wide-reads
+use Rattle.octets.specs.Octets.{value, joined}
+use Rattle.octets.proofs.OctetLaws.{value-snoc}
+use Rattle.octets.proofs.get.Statement.{statement}
+use Rattle.octets.proofs.get.Tie as tie
+use Rattle.octets.proofs.get.Reads as reads
+use Rattle.octets.proofs.get.Lts as lts
+use Rattle.octets.proofs.wide.Reads as wide-reads
 
 one-more : (n v o : ℕ) → n ≡ v % 2 ^ 64 → o < 256 → n % 2 ^ 56 * 256 + o ≡ (v * 256 + o) % 2 ^ 64
 one-more n v o e h = omega arith

@@ -2,7 +2,7 @@
 ghost use mathlib.Core.Path.{_≡_};
 ghost use Prim.Native.Nat.{_%_, _^_};
 ghost use lib.ListN.{length};
-ghost use Rattle.address.specs.Octets.{octets, value};
+ghost use Rattle.octets.specs.Octets.{octets, value};
 
 // What writing into a lent buffer answers: a refusal's number, 0 where it is done, and how many octets were written, 0 in a refusal.
 pub struct Written {

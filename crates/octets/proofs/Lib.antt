@@ -1,0 +1,3 @@
+-- The laws of numbers as octets.
+pub mod OctetLaws
+pub mod SameLaws

@@ -1,0 +1,2 @@
+-- What the octets crate promises, in definitions alone.
+pub mod Octets
