@@ -17,8 +17,9 @@ use Rattle.pasa.specs.declared.bytes.ReadAnswer.{ReadAnswer}
 use Rattle.pasa.specs.declared.bytes.FormAnswer.{FormAnswer}
 use Rattle.pasa.specs.declared.paths.PathAnswer.{PathAnswer}
 use Rattle.pasa.specs.Children.{NodeRecord, ChildAnswer, nodeOf, recordOf, childAnswer}
-use Rattle.pasa.specs.Hops.{HopAnswer, hopAnswer}
-use Rattle.pasa.specs.Batch.{Effect, hopsOf}
+use Rattle.batch.specs.declared.HopAnswer.{HopAnswer}
+use Rattle.batch.specs.Hops.{hopAnswer}
+use Rattle.batch.specs.Batch.{Effect, hopsOf}
 use Rattle.pasa.specs.Bytes.{writeAnswer, readAnswer, formAnswer}
 use Rattle.pasa.specs.Paths.{pathAnswer}
 use Rattle.pasa.proofs.children.pasa_fresh.Reads as fresh-reads
@@ -26,7 +27,7 @@ use Rattle.pasa.proofs.children.pasa_child_router.Reads as child-router
 use Rattle.pasa.proofs.children.pasa_child_host.Reads as child-host-reads
 use Rattle.pasa.proofs.hops.pasa_next_hop.Reads as next-hop-reads
 use Rattle.pasa.proofs.hops.pasa_packet_next_hop.Reads as packet-next-hop-reads
-use Rattle.pasa.proofs.batch.pasa_next_hops.Reads as next-hops-reads
+use Rattle.pasa.proofs.hops.pasa_next_hops.Reads as next-hops-reads
 use Rattle.pasa.proofs.bytes.pasa_header_write.Reads as header-write-reads
 use Rattle.pasa.proofs.bytes.pasa_header_read.Reads as header-read-reads
 use Rattle.pasa.proofs.bytes.pasa_ipv6_write.Reads as ipv6-write-reads

@@ -1,6 +1,4 @@
 -- How the exported structs show the records and answers of the crates below, in definitions alone.
 pub mod Children
-pub mod Hops
-pub mod Batch
 pub mod Bytes
 pub mod Paths

@@ -1,64 +1,20 @@
-// The next hop from an address and from a packet.
+// The next hop from an address and from a packet, and those for many destinations.
 use super::children::NodeRecord;
 use address::Address;
-use forward::Hop;
+use batch::HopAnswer;
 ghost use mathlib.Core.Path.{_≡_};
-ghost use Rattle.forward.specs.Forward.{nextHop, answer};
+ghost use Rattle.forward.specs.Forward.{nextHop};
 ghost use Rattle.packet.specs.Packet.{packetHop};
 ghost use Rattle.pasa.specs.Children.{nodeOf};
-ghost use Rattle.pasa.specs.Hops.{hopAnswer};
-
-// What becomes of the packet, in an answer.
-pub const STOPPED: u8 = 0;
-
-pub const DELIVERED: u8 = 1;
-
-pub const TO_PARENT: u8 = 2;
-
-pub const TO_CHILD: u8 = 3;
-
-// What a next hop answers: the node passed to, on delivery the node itself, 0 in a refusal; the refusal's number, 0 where there is none;
-// and what becomes of the packet.
-#[repr(C)]
-pub struct HopAnswer {
-    pub node: u64,
-    pub refusal: u8,
-    pub action: u8,
-}
-
-fn hop_answer(hop: Hop) -> HopAnswer
-    ensures { λ r. ⌜ r ≡ hopAnswer (answer hop) ⌝ }
-{
-    match hop {
-        Hop::Deliver(node) => HopAnswer {
-            node: node.number,
-            refusal: 0,
-            action: DELIVERED,
-        },
-        Hop::Parent(node) => HopAnswer {
-            node: node.number,
-            refusal: 0,
-            action: TO_PARENT,
-        },
-        Hop::Child(node) => HopAnswer {
-            node: node.number,
-            refusal: 0,
-            action: TO_CHILD,
-        },
-        Hop::Refused(number) => HopAnswer {
-            node: 0,
-            refusal: number,
-            action: STOPPED,
-        },
-    }
-}
+ghost use Rattle.batch.specs.Hops.{hopAnswer};
+ghost use Rattle.batch.specs.Batch.{hopsOf};
 
 // The next hop for a packet to the destination, at the node with this record.
 #[no_mangle]
 pub extern "C" fn pasa_next_hop(node: NodeRecord, destination: u64) -> HopAnswer
     ensures { λ r. ⌜ r ≡ hopAnswer (nextHop (nodeOf node) destination) ⌝ }
 {
-    hop_answer(forward::next_hop(super::children::node_of(node), Address::of(destination)))
+    batch::hop_answer(forward::next_hop(super::children::node_of(node), Address::of(destination)))
 }
 
 // The next hop for a packet, at the node with this record.
@@ -66,5 +22,27 @@ pub extern "C" fn pasa_next_hop(node: NodeRecord, destination: u64) -> HopAnswer
 pub extern "C" fn pasa_packet_next_hop(node: NodeRecord, packet: &[u8]) -> HopAnswer
     ensures { λ r. ⌜ r ≡ hopAnswer (packetHop (nodeOf node) (now (packet .entry))) ⌝ }
 {
-    hop_answer(packet::next_hop(super::children::node_of(node), packet))
+    batch::hop_answer(packet::next_hop(super::children::node_of(node), packet))
+}
+
+// The next hops for many destinations, at the node with this record: as many as the shortest slice allows, which is the answer. What
+// stands behind so many in the slices lent stays as it was.
+#[no_mangle]
+pub extern "C" fn pasa_next_hops(
+    node: NodeRecord,
+    destinations: &[u64],
+    nodes: &mut [u64],
+    actions: &mut [u8],
+    refusals: &mut [u8],
+) -> usize
+    ensures { λ r. ⌜ record { count = r; nodes = now (nodes .exit); actions = now (actions .exit); refusals = now (refusals .exit) }
+        ≡ hopsOf (nodeOf node) (now (destinations .entry)) (now (nodes .entry)) (now (actions .entry)) (now (refusals .entry)) ⌝ }
+{
+    batch::next_hops(
+        super::children::node_of(node),
+        destinations,
+        nodes,
+        actions,
+        refusals,
+    )
 }

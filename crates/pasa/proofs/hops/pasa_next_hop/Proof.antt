@@ -3,7 +3,7 @@ use mathlib.Core.Path.{ap, _∙_}
 use Prim.Native.Nat.{ℕ}
 use Rattle.node.specs.declared.Node.{Node}
 use Rattle.forward.specs.Forward.{nextHop}
-use Rattle.pasa.specs.Hops.{hopAnswer}
+use Rattle.batch.specs.Hops.{hopAnswer}
 use borrow.Author.Needs.{needs}
 use Rattle.pasa.proofs.hops.pasa_next_hop.Statement.{statement}
 use Rattle.pasa.proofs.hops.pasa_next_hop.Tie as tie

@@ -2,7 +2,7 @@
 use mathlib.Core.Path.{ap, _∙_}
 use Rattle.node.specs.declared.Node.{Node}
 use Rattle.packet.specs.Packet.{packetHop}
-use Rattle.pasa.specs.Hops.{hopAnswer}
+use Rattle.batch.specs.Hops.{hopAnswer}
 use borrow.Author.Needs.{needs}
 use Rattle.pasa.proofs.hops.pasa_packet_next_hop.Statement.{statement}
 use Rattle.pasa.proofs.hops.pasa_packet_next_hop.Tie as tie

@@ -2,10 +2,10 @@
 use mathlib.Core.Path.{sym, ap}
 use Rattle.forward.specs.declared.Hop.{Hop}
 use Rattle.forward.specs.Forward.{answer}
-use Rattle.pasa.specs.Hops.{hopAnswer, actionNumber}
+use Rattle.batch.specs.Hops.{hopAnswer, actionNumber}
 use borrow.Author.Needs.{needs}
-use Rattle.pasa.proofs.hops.hop_answer.Statement.{statement}
-use Rattle.pasa.proofs.hops.hop_answer.Tie as tie
+use Rattle.batch.proofs.hop_answer.Statement.{statement}
+use Rattle.batch.proofs.hop_answer.Tie as tie
 
 enum-known-hop : tie.Need-enum-known-hop
 enum-known-hop c = search needs

@@ -14,11 +14,11 @@ use Rattle.address.proofs.Prefixes.{prefix-eq, prefix-isPrefix}
 use Rattle.node.specs.Node.{addressIn, isGood}
 use Rattle.node.proofs.Children.{address-good}
 use Rattle.forward.specs.Forward.{delivered, upTo, nextHop}
-use Rattle.pasa.specs.Hops.{hopAnswer, actionNumber}
+use Rattle.batch.specs.Hops.{hopAnswer, actionNumber}
 use Rattle.forward.proofs.Rules.{nextHop-bad, nextHop-zero, nextHop-same, nextHop-host, nextHop-elsewhere, nextHop-below}
 use borrow.Author.Needs.{needs}
-use Rattle.pasa.proofs.batch.hop.Statement.{statement}
-use Rattle.pasa.proofs.batch.hop.Tie as tie
+use Rattle.batch.proofs.hop.Statement.{statement}
+use Rattle.batch.proofs.hop.Tie as tie
 
 good : (c : tie.Else1) → isGood (c .before .before .args .node) ≡ true
 good c = sym (c .before .is-good .ensures) ∙ not-false (c .before .is-good .result) (c .if1 .left)

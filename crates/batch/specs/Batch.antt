@@ -6,7 +6,7 @@ use lib.Dec.{leb}
 use Rattle.address.specs.Choice.{if_then_else_}
 use Rattle.node.specs.declared.Node.{Node}
 use Rattle.forward.specs.Forward.{nextHop}
-use Rattle.pasa.specs.Hops.{HopAnswer, hopAnswer}
+use Rattle.batch.specs.Hops.{HopAnswer, hopAnswer}
 
 -- the answer for one of the destinations
 unfoldable pub hopFor : Node → ℕ → HopAnswer

@@ -1,7 +1,7 @@
 -- `kind_of` meets its contract, by its test. Assumes nothing.
 use borrow.Author.Tests.{eq-eqb, ne-eqb}
-use Rattle.pasa.proofs.batch.kind_of.Statement.{statement}
-use Rattle.pasa.proofs.batch.kind_of.Tie as tie
+use Rattle.batch.proofs.kind_of.Statement.{statement}
+use Rattle.batch.proofs.kind_of.Tie as tie
 
 returns : tie.Need-returns
 returns c = simp (eq-eqb _ _ (c .if1 .taken))

@@ -1,8 +1,8 @@
 -- `least` meets its contract, by its test. Assumes nothing.
 use borrow.Author.Tests.{le-leb, lt-leb}
-use Rattle.pasa.specs.Batch.{least}
-use Rattle.pasa.proofs.batch.least.Statement.{statement}
-use Rattle.pasa.proofs.batch.least.Tie as tie
+use Rattle.batch.specs.Batch.{least}
+use Rattle.batch.proofs.least.Statement.{statement}
+use Rattle.batch.proofs.least.Tie as tie
 
 returns : tie.Need-returns
 unfolding least

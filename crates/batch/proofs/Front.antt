@@ -12,7 +12,7 @@ use lib.Dec.{leb}
 use lib.ListN.{length, take, drop, getD, set, length-set, length-map, List·getD-map}
 use lib.Seq.{paste, paste-suc}
 use Rattle.address.specs.Choice.{if_then_else_}
-use Rattle.pasa.specs.Batch.{least, front}
+use Rattle.batch.specs.Batch.{least, front}
 
 picked : (a b : ℕ) (t : Bool) → leb a b ≡ t → ((if t then a else b) ≤ a) × ((if t then a else b) ≤ b)
 picked a b true e = (le-refl a, leb-true a b e)

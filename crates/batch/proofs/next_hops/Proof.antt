@@ -1,4 +1,4 @@
--- `pasa_next_hops` meets its contract. The loop's invariant: so far the first i answers stand in front in each slice, and what stands
+-- `next_hops` meets its contract. The loop's invariant: so far the first i answers stand in front in each slice, and what stands
 -- behind them is as it was. The measure is what is left of the count. Assumes nothing.
 use mathlib.Core.Path.{_≡_, ap, _∙_}
 use mathlib.Core.List.{List}
@@ -6,25 +6,22 @@ use Prim.Native.Nat.{ℕ, _+_, _≤_, _<_, _-_}
 use native.Mathlib.Omega.{arith}
 use lib.ListN.{length, getD}
 use borrow.Author.Needs.{needs}
-use Rattle.node.specs.declared.Node.{Node}
-use Rattle.pasa.specs.Hops.{HopAnswer}
-use Rattle.pasa.specs.Batch.{hopFor, nodeFor, actionFor, refusalFor, firstHops, shortest, hopsOf}
-use Rattle.pasa.proofs.Front.{Within, within, Stands, stands-zero, stands-next}
-use Rattle.pasa.proofs.batch.pasa_next_hops.Statement.{statement}
-use Rattle.pasa.proofs.batch.pasa_next_hops.Tie as tie
+use Rattle.forward.specs.Forward.{nextHop}
+use Rattle.batch.specs.Hops.{HopAnswer, hopAnswer}
+use Rattle.batch.specs.Batch.{hopFor, nodeFor, actionFor, refusalFor, firstHops, shortest, hopsOf}
+use Rattle.batch.proofs.Front.{Within, within, Stands, stands-zero, stands-next}
+use Rattle.batch.proofs.next_hops.Statement.{statement}
+use Rattle.batch.proofs.next_hops.Tie as tie
 
 abbrev Inv-loop : tie.InvT-loop
-Inv-loop destinations nodes₀ actions₀ refusals₀ here count i₀ nodes actions refusals i =
+Inv-loop here destinations nodes₀ actions₀ refusals₀ count i₀ nodes actions refusals i =
     (i ≤ count)
     × Stands (nodeFor here) i destinations nodes₀ nodes
     × Stands (actionFor here) i destinations actions₀ actions
     × Stands (refusalFor here) i destinations refusals₀ refusals
 
 abbrev μ-loop : tie.MeasureT-loop
-μ-loop destinations nodes₀ actions₀ refusals₀ here count i₀ nodes actions refusals i = count - i
-
-node-of-requires : tie.Need-node-of-requires Inv-loop μ-loop
-node-of-requires c κs = search needs
+μ-loop here destinations nodes₀ actions₀ refusals₀ count i₀ nodes actions refusals i = count - i
 
 least-requires : tie.Need-least-requires Inv-loop μ-loop
 least-requires c κs = search needs
@@ -38,9 +35,12 @@ least-requires-3 c κs = search needs
 loop-holds : tie.Need-loop-holds Inv-loop μ-loop
 loop-holds c = (omega arith, stands-zero _ _ _, stands-zero _ _ _, stands-zero _ _ _)
 
+abbrev start : tie.After-least3 Inv-loop μ-loop → tie.Start Inv-loop μ-loop
+start c = c .before .before .before .before .before .before .before
+
 abbrev lengths : tie.After-least3 Inv-loop μ-loop → ℕ → Type 0
 lengths c i =
-    let args = c .before .before .before .before .before .before .before .before .args in
+    let args = start c .args in
     Within i (length (args .destinations .now)) (length (args .nodes .now)) (length (args .actions .now)) (length (args .refusals .now))
 
 -- a number that is at most the count is at most each length
@@ -84,9 +84,12 @@ loop-less c = search needs
 -- the answer that is stored is the one for the destination at this place
 stored : (c : tie.After-hop Inv-loop μ-loop)
     → let turn = c .before .before .before .before in
-    c .hop .result ≡ hopFor (turn .before .before .before .before .node-of .result) (getD (turn .before .before .before .before .before .before .before .before .before .args .destinations .now) (turn .loop .i) 0)
+    let args = start (turn .before) .args in
+    c .hop .result ≡ hopFor (args .node) (getD (args .destinations .now) (turn .loop .i) 0)
 unfolding hopFor
-stored c = cc
+stored c =
+    let args = start (c .before .before .before .before .before) .args in
+    c .hop .ensures ∙ ap (λ (d : ℕ). hopAnswer (nextHop (args .node) d)) (c .before .of .ensures)
 
 loop-again : tie.Need-loop-again Inv-loop μ-loop
 loop-again c =
@@ -108,32 +111,19 @@ same-length-2 c = c .before .loop .inv .2 .same
 same-length-3 : tie.Need-same-length-3 Inv-loop μ-loop
 same-length-3 c = c .before .loop .inv .3 .same
 
--- with the record as the crates below hold it
-whole : (c : tie.After-loop Inv-loop μ-loop)
-    → let at = c .before .before .before .before .before in
-    let args = at .before .before .before .before .before .args in
-    record { count = c .before .before .least3 .result; nodes = c .before .loop .nodes; actions = c .before .loop .actions; refusals = c .before .loop .refusals }
-    ≡ hopsOf (at .node-of .result) (args .destinations .now) (args .nodes .now) (args .actions .now) (args .refusals .now)
+returns : tie.Need-returns Inv-loop μ-loop
 unfolding hopsOf firstHops shortest
-whole c =
+returns c =
     let inv = c .before .loop .inv in
     let all : c .before .loop .i ≡ c .before .before .least3 .result = omega arith in
     cc
 
-returns : tie.Need-returns Inv-loop μ-loop
-returns c =
-    let at = c .before .before .before .before .before in
-    let args = at .before .before .before .before .before .args in
-    whole c
-    ∙ ap (λ (n : Node). hopsOf n (args .destinations .now) (args .nodes .now) (args .actions .now) (args .refusals .now)) (at .node-of .ensures)
-
-pub pasa-next-hops-spec : {M : Type 1} → statement M
-pasa-next-hops-spec =
+pub next-hops-spec : {M : Type 1} → statement M
+next-hops-spec =
     tie.close
     (tie.spec
     Inv-loop
     μ-loop
-    node-of-requires
     least-requires
     least-requires-2
     least-requires-3

@@ -1,12 +1,11 @@
-// The next hops for many destinations at one node.
+// The next hops for many destinations at one node, as plain numbers.
 //
 // Each is promised to be what a single call answers. The rules stand here once more, as a function that has the loop for its only caller: the
 // compiler takes it into the loop, and what the rules ask of the node alone out of it. A call of `forward::next_hop` for each destination
 // takes up to twice as long.
-use super::children::NodeRecord;
-use super::hops::HopAnswer;
 use address::Address;
 use address::Kind;
+use forward::Hop;
 use node::Node;
 ghost use mathlib.Core.Path.{_≡_};
 ghost use mathlib.Core.Bool.{true, false};
@@ -19,10 +18,54 @@ ghost use Rattle.address.specs.Address.{bitLength, isHost};
 ghost use Rattle.address.specs.Reading.{IsAddress};
 ghost use Rattle.address.specs.Search.{lookedAt, isPrefix};
 ghost use Rattle.address.specs.declared.Kind.the-variants.{Router, Host};
-ghost use Rattle.forward.specs.Forward.{toward, nextHop};
-ghost use Rattle.pasa.specs.Children.{nodeOf};
-ghost use Rattle.pasa.specs.Hops.{hopAnswer};
-ghost use Rattle.pasa.specs.Batch.{least, hopsOf};
+ghost use Rattle.forward.specs.Forward.{answer, toward, nextHop};
+ghost use Rattle.batch.specs.Hops.{hopAnswer};
+ghost use Rattle.batch.specs.Batch.{least, hopsOf};
+
+// What becomes of the packet, in an answer.
+pub const STOPPED: u8 = 0;
+
+pub const DELIVERED: u8 = 1;
+
+pub const TO_PARENT: u8 = 2;
+
+pub const TO_CHILD: u8 = 3;
+
+// What a next hop answers: the node passed to, on delivery the node itself, 0 in a refusal; the refusal's number, 0 where there is none;
+// and what becomes of the packet.
+#[repr(C)]
+pub struct HopAnswer {
+    pub node: u64,
+    pub refusal: u8,
+    pub action: u8,
+}
+
+pub fn hop_answer(hop: Hop) -> HopAnswer
+    ensures { λ r. ⌜ r ≡ hopAnswer (answer hop) ⌝ }
+{
+    match hop {
+        Hop::Deliver(node) => HopAnswer {
+            node: node.number,
+            refusal: 0,
+            action: DELIVERED,
+        },
+        Hop::Parent(node) => HopAnswer {
+            node: node.number,
+            refusal: 0,
+            action: TO_PARENT,
+        },
+        Hop::Child(node) => HopAnswer {
+            node: node.number,
+            refusal: 0,
+            action: TO_CHILD,
+        },
+        Hop::Refused(number) => HopAnswer {
+            node: 0,
+            refusal: number,
+            action: STOPPED,
+        },
+    }
+}
 
 // The kind of a child by its last bit.
 fn kind_of(child: Address) -> Kind
@@ -51,13 +94,13 @@ fn toward(node: Node, destination: Address) -> HopAnswer
         return HopAnswer {
             node: child.number,
             refusal: 0,
-            action: super::hops::TO_CHILD,
+            action: TO_CHILD,
         };
     }
     HopAnswer {
         node: 0,
         refusal: forward::CHILD_NOT_GIVEN,
-        action: super::hops::STOPPED,
+        action: STOPPED,
     }
 }
 
@@ -69,14 +112,14 @@ fn hop(node: Node, destination: Address) -> HopAnswer
         return HopAnswer {
             node: 0,
             refusal: node::BAD_RECORD,
-            action: super::hops::STOPPED,
+            action: STOPPED,
         };
     }
     if destination.number == 0 {
         return HopAnswer {
             node: 0,
             refusal: address::ZERO_ADDRESS,
-            action: super::hops::STOPPED,
+            action: STOPPED,
         };
     }
     let here = node.address;
@@ -84,21 +127,21 @@ fn hop(node: Node, destination: Address) -> HopAnswer
         return HopAnswer {
             node: here.number,
             refusal: 0,
-            action: super::hops::DELIVERED,
+            action: DELIVERED,
         };
     }
     if here.is_host() {
         return HopAnswer {
             node: here.parent().number,
             refusal: 0,
-            action: super::hops::TO_PARENT,
+            action: TO_PARENT,
         };
     }
     if destination.prefix(here.bit_length()).number != here.number {
         return HopAnswer {
             node: here.parent().number,
             refusal: 0,
-            action: super::hops::TO_PARENT,
+            action: TO_PARENT,
         };
     }
     toward(node, destination)
@@ -115,25 +158,23 @@ fn least(a: usize, b: usize) -> usize
 
 // The next hops for many destinations, at the node with this record: as many as the shortest slice allows, which is the answer. What
 // stands behind so many in the slices lent stays as it was.
-#[no_mangle]
-pub extern "C" fn pasa_next_hops(
-    node: NodeRecord,
+pub fn next_hops(
+    node: Node,
     destinations: &[u64],
     nodes: &mut [u64],
     actions: &mut [u8],
     refusals: &mut [u8],
 ) -> usize
     ensures { λ r. ⌜ record { count = r; nodes = now (nodes .exit); actions = now (actions .exit); refusals = now (refusals .exit) }
-        ≡ hopsOf (nodeOf node) (now (destinations .entry)) (now (nodes .entry)) (now (actions .entry)) (now (refusals .entry)) ⌝ }
+        ≡ hopsOf node (now (destinations .entry)) (now (nodes .entry)) (now (actions .entry)) (now (refusals .entry)) ⌝ }
 {
-    let here = super::children::node_of(node);
     let count = least(
         least(destinations.len(), nodes.len()),
         least(actions.len(), refusals.len()),
     );
     let mut i = 0;
     while i < count {
-        let answer = hop(here, Address::of(destinations[i]));
+        let answer = hop(node, Address::of(destinations[i]));
         nodes[i] = answer.node;
         actions[i] = answer.action;
         refusals[i] = answer.refusal;

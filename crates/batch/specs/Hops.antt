@@ -1,7 +1,7 @@
 -- A next-hop answer as a struct of plain numbers.
 use Prim.Native.Nat.{ℕ}
 use Rattle.forward.specs.Forward.{Action, Answer, delivers, toParent, toChild, stops}
-pub use Rattle.pasa.specs.declared.hops.HopAnswer.{HopAnswer}
+pub use Rattle.batch.specs.declared.HopAnswer.{HopAnswer}
 
 -- the actions are numbered: 0 stopped, 1 delivered, 2 to the parent, 3 to the child
 unfoldable pub actionNumber : Action → ℕ

@@ -20,10 +20,10 @@ use Rattle.forward.specs.Forward.{downTo, toward}
 use Rattle.forward.proofs.Rules.{toward-given, toward-absent}
 use Rattle.forward.proofs.Looked.{looked-some, childEnd-looked, prefix-looked, kind-looked}
 use borrow.Author.Needs.{needs}
-use Rattle.pasa.specs.Hops.{hopAnswer, actionNumber}
-use Rattle.pasa.proofs.Ends.{lookedAt-within}
-use Rattle.pasa.proofs.batch.toward.Statement.{statement}
-use Rattle.pasa.proofs.batch.toward.Tie as tie
+use Rattle.batch.specs.Hops.{hopAnswer, actionNumber}
+use Rattle.batch.proofs.Ends.{lookedAt-within}
+use Rattle.batch.proofs.toward.Statement.{statement}
+use Rattle.batch.proofs.toward.Tie as tie
 
 -- the bits looked at
 abbrev looked : tie.Start → List Bit

@@ -1,0 +1,3 @@
+-- The laws of the batch crate.
+mod Front
+mod Ends

@@ -1,0 +1,3 @@
+-- Next hops as plain numbers, one and many, in definitions alone.
+pub mod Hops
+pub mod Batch
