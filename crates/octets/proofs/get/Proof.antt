@@ -1,4 +1,4 @@
--- `address::octets::get` meets its contract. After i octets the number is what those give, less whatever is past 64 bits; one more octet
+-- `octets::get` meets its contract. After i octets the number is what those give, less whatever is past 64 bits; one more octet
 -- moves it up by 8 bits, so that its top 8 are dropped first. Assumes nothing.
 use mathlib.Core.Path.{_≡_, refl, sym, ap, ap₂, _∙_}
 use Prim.Native.Nat.{ℕ, zero, suc, _+_, _*_, _≤_, _<_, _-_, _/_, _%_, _^_, zero-le}

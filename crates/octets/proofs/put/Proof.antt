@@ -1,4 +1,4 @@
--- `address::octets::put` meets its contract. The loop goes from the last octet to the first: what is still to be written is the octets of
+-- `octets::put` meets its contract. The loop goes from the last octet to the first: what is still to be written is the octets of
 -- `rest`, as many as there are places before i, and behind them stands what the buffer has from i on. Assumes nothing.
 use mathlib.Core.Path.{_≡_, refl, sym, ap, ap₂, _∙_}
 use Prim.Native.Nat.{ℕ, zero, suc, _≤_, _<_, _-_, _/_, _%_}
