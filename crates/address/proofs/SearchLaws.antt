@@ -46,6 +46,11 @@ module _ {n l : ℕ} (k : ℕ) (fits : n < 2 ^ longest) (long : l ≡ bitLength 
   unfolding prefix bitLength
   prefix-shr = number-take k (bits n) ∙ rw (number-bits fits, long)
 
+  pub prefix-shr-half : k < l → prefix k n ≡ n / 2 ^ (l - k - 1) / 2
+  prefix-shr-half h =
+      let j : l - k ≡ l - k - 1 + 1 = omega arith in
+      prefix-shr ∙ ap (λ (i : ℕ). n / 2 ^ i) j ∙ sym (shr-shr n (l - k - 1) 1)
+
   pub childEnd-past : l ≤ k → childEnd k (bits n) ≡ k
   unfolding childEnd lookedAt bitLength
   childEnd-past h = rw (drop-of-length-le (bits n) {i = k} (omega arith)) (omega arith)
@@ -69,7 +74,3 @@ module _ {n l : ℕ} (k : ℕ) (fits : n < 2 ^ longest) (long : l ≡ bitLength 
       go : (b : Bit) → (digit b ≡ 0 → ⊥) → k + length (lookedAt (b ∷ drop (suc k) (bits n))) ≡ k + 1 + length (lookedAt (drop (k + 1) (bits n)))
       go O e = absurd (e (unfold digit in refl))
       go I e = unfold lookedAt in rw add-one (omega arith)
-
-pub prefix-none : (n : ℕ) → prefix 0 n ≡ 0
-unfolding prefix number numberFrom
-prefix-none n = refl

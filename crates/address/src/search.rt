@@ -33,9 +33,7 @@ impl Address {
         if length <= count {
             return self;
         }
-        if count == 0 {
-            return Address::of(0);
-        }
-        Address::of(self.number >> (length - count))
+        // One bit less, and then that one: where `count` is zero, all 64 may have to go, and no shift takes so many.
+        Address::of((self.number >> (length - count - 1)) / 2)
     }
 }
