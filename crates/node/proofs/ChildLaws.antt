@@ -80,11 +80,7 @@ module _ (n : Node) (kind : Kind) where
       unfolding childOf
       childOf-done l = rw (good, inner, length-childBits, le-ltb longest (bitLength (addressIn n) + count kind n + 1) l)
 
--- what the code makes: an address by `Address::of`, and the power of two by a shift
-
-pub refuse-of : (number : ℕ) (n : Node) (a : Address) → a .number ≡ 0 → record { node = n; child = a; refusal = number } ≡ refuse number n
-unfolding refuse
-refuse-of number n a e = ap (λ (k : ℕ). record { node = n; child = addressAt k; refusal = number }) e
+-- what the code makes: the power of two by a shift
 
 abbrev pub shifted : ℕ → ℕ
 shifted i = 1 * 2 ^ i % 2 ^ longest

@@ -4,7 +4,9 @@ use address::Address;
 use address::Kind;
 ghost use mathlib.Core.Path.{_≡_};
 ghost use Prim.Native.Nat.{_<_};
-ghost use Rattle.node.specs.Node.{fresh, count, raised, isGood, childOf};
+ghost use Rattle.address.specs.Bits.{digit};
+ghost use Rattle.address.specs.Steps.{lastOf};
+ghost use Rattle.node.specs.Node.{fresh, count, raised, isGood, refuse, childOf};
 
 // Refusals: "the node record is bad", "a host is asked for a child", "the child would be longer than 64 bits".
 pub const BAD_RECORD: u8 = 1;
@@ -25,6 +27,16 @@ pub struct Given {
     pub node: Node,
     pub child: Address,
     pub refusal: u8,
+}
+
+// The bit that a child's address ends with.
+fn last_bit(kind: Kind) -> u64
+    ensures { λ r. ⌜ r ≡ digit (lastOf kind) ⌝ }
+{
+    match kind {
+        Kind::Router => 0,
+        Kind::Host => 1,
+    }
 }
 
 impl Node {
@@ -89,42 +101,37 @@ impl Node {
         }
     }
 
+    // The record as it came, and no child.
+    fn refuse(self, number: u8) -> Given
+        ensures { λ r. ⌜ r ≡ refuse number self ⌝ }
+    {
+        Given {
+            node: self,
+            child: Address::of(0),
+            refusal: number,
+        }
+    }
+
     // Gives the next child of a kind: the record handed back takes the place of this one.
     pub fn child(self, kind: Kind) -> Given
         ensures { λ r. ⌜ r ≡ childOf self kind ⌝ }
     {
         if !self.is_good() {
-            return Given {
-                node: self,
-                child: Address::of(0),
-                refusal: BAD_RECORD,
-            };
+            return self.refuse(BAD_RECORD);
         }
         if self.address.is_host() {
-            return Given {
-                node: self,
-                child: Address::of(0),
-                refusal: HOST_ASKED,
-            };
+            return self.refuse(HOST_ASKED);
         }
         let ones = self.count(kind) as u32;
         if Address::LONGEST < self.address.bit_length() + ones + 1 {
-            return Given {
-                node: self,
-                child: Address::of(0),
-                refusal: TOO_LONG,
-            };
+            return self.refuse(TOO_LONG);
         }
         // The address with as many ones behind it, and then the child's last bit.
         let power = 1u64 << ones;
         let stem = self.address.number * power + (power - 1);
-        let last = match kind {
-            Kind::Router => 0,
-            Kind::Host => 1,
-        };
         Given {
             node: self.raised(kind),
-            child: Address::of(stem * 2 + last),
+            child: Address::of(stem * 2 + last_bit(kind)),
             refusal: 0,
         }
     }
