@@ -119,6 +119,13 @@ impl Seen {
         self.0[usize::from(refusal)] += 1;
     }
 
+    fn and(mut self, other: Seen) -> Seen {
+        for (times, more) in self.0.iter_mut().zip(other.0) {
+            *times += more;
+        }
+        self
+    }
+
     /// Each of these refusals, done among them, was met often, no other was met, and there were so many inputs.
     fn often(&self, refusals: &[u8]) {
         for (refusal, times) in self.0.iter().enumerate() {
@@ -378,30 +385,43 @@ fn path(first: u64, second: u64, words: &[u64], seen: &mut Seen) {
     seen.add(got.refusal);
 }
 
-#[test]
-fn paths() {
-    let words = [0x5555_5555_5555_5555; 128];
-    let seen = &mut Seen::default();
-    // every pair of small addresses, with room enough and with little
+const WORDS: [u64; 128] = [0x5555_5555_5555_5555; 128];
+
+/// Every pair of small addresses, with room enough and with little.
+fn paths_of_small_addresses() -> Seen {
+    let mut seen = Seen::default();
     for first in 0..1024 {
         for second in 0..1024 {
-            path(first, second, &words[..(first ^ second) as usize % 24], seen);
+            path(first, second, &WORDS[..(first ^ second) as usize % 24], &mut seen);
         }
     }
+    seen
+}
+
+fn paths_of_any_addresses() -> Seen {
+    let mut seen = Seen::default();
     let random = &mut Random(10);
     for _ in 0..MILLION / 2 {
         let first = random.number();
         let second = random.beside(first);
         let length = match random.below(4) {
-            0 => random.below(words.len()),
+            0 => random.below(WORDS.len()),
             1 if first != 0 && second != 0 => document::way(first, second).len() - random.below(2),
             _ => 126,
         };
-        path(first, second, &words[..length], seen);
+        path(first, second, &WORDS[..length], &mut seen);
     }
     // the longest
-    path(0b10 << 62, 0b11 << 62, &words[..126], seen);
-    seen.often(&[0, 9, 10]);
+    path(0b10 << 62, 0b11 << 62, &WORDS[..126], &mut seen);
+    seen
+}
+
+/// The longest of the tests, and the last to start: so on both cores.
+#[test]
+fn paths() {
+    let small = std::thread::spawn(paths_of_small_addresses);
+    let any = paths_of_any_addresses();
+    small.join().expect("a path differs").and(any).often(&[0, 9, 10]);
 }
 
 #[test]
