@@ -47,10 +47,8 @@ pub fn steps(bits: &[bool]) -> Vec<Step> {
 }
 
 /// "as many ones as the old count of that kind, then 0 for a router or 1 for a host"
-pub fn step_bits((kind, index): Step) -> Bits {
-    let mut bits = vec![true; index];
-    bits.push(kind == Kind::Host);
-    bits
+pub fn step_bits((kind, index): Step) -> impl Iterator<Item = bool> {
+    std::iter::repeat(true).take(index).chain([kind == Kind::Host])
 }
 
 pub fn spelled(steps: &[Step]) -> Bits {
