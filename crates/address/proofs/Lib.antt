@@ -3,6 +3,5 @@ pub mod ChoiceLaws
 pub mod Numbers
 pub mod Steps
 pub mod Answers
-pub mod SearchLaws
-pub mod Prefixes
+pub mod Ancestors
 pub mod Promises

@@ -4,4 +4,3 @@ pub mod Bits
 pub mod Steps
 pub mod Address
 pub mod Reading
-pub mod Search

@@ -2,8 +2,6 @@
 //
 // What an address is stands in specs/Bits.antt (numbers and bit strings) and specs/Steps.antt (bit strings and steps). Zero is no address:
 // it stands in an answer beside a refusal, and each function says what it answers for it.
-pub mod search;
-
 ghost use mathlib.Core.Path.{_≡_};
 ghost use Rattle.address.specs.Bits.{longest, root};
 ghost use Rattle.address.specs.Address.{answer, made, bitLength, isHost, depth, parent};

@@ -4,7 +4,7 @@ use Prim.Native.Nat.{ℕ, _+_, _<_, _≤_}
 use native.Mathlib.Omega.{arith}
 use lib.ListN.{length, drop, length-drop}
 use Rattle.address.specs.Bits.{Bit, O, I}
-use Rattle.address.specs.Search.{lookedAt}
+use Rattle.search.specs.Search.{lookedAt}
 
 lookedAt-length : (bs : List Bit) → length (lookedAt bs) ≤ length bs
 unfolding lookedAt

@@ -16,7 +16,7 @@ ghost use Rattle.address.specs.Choice.{if_then_else_};
 ghost use Rattle.address.specs.Bits.{bits};
 ghost use Rattle.address.specs.Address.{bitLength, isHost};
 ghost use Rattle.address.specs.Reading.{IsAddress};
-ghost use Rattle.address.specs.Search.{lookedAt, isPrefix};
+ghost use Rattle.search.specs.Search.{lookedAt, isPrefix};
 ghost use Rattle.address.specs.declared.Kind.the-variants.{Router, Host};
 ghost use Rattle.forward.specs.Forward.{answer, toward, nextHop};
 ghost use Rattle.batch.specs.Hops.{hopAnswer};
@@ -87,7 +87,7 @@ fn toward(node: Node, destination: Address) -> HopAnswer
     ensures { λ r. ⌜ r ≡ hopAnswer (toward node (lookedAt (drop (bitLength (node .address .number)) (bits (destination .number))))) ⌝ }
 {
     let length = node.address.bit_length();
-    let end = destination.child_end(length);
+    let end = search::child_end(destination, length);
     let child = Address::of(destination.number >> (destination.bit_length() - end));
     let index = end - length - 1;
     if index < node.count(kind_of(child)) as u32 {
@@ -137,7 +137,7 @@ fn hop(node: Node, destination: Address) -> HopAnswer
             action: TO_PARENT,
         };
     }
-    if destination.prefix(here.bit_length()).number != here.number {
+    if search::prefix(destination, here.bit_length()).number != here.number {
         return HopAnswer {
             node: here.parent().number,
             refusal: 0,

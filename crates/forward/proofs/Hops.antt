@@ -12,8 +12,9 @@ use Rattle.address.specs.Bits.{bits, number}
 use Rattle.address.specs.Steps.{Step, child, steps, addressOf, stepBits}
 use Rattle.address.specs.Address.{bitLength, isHost, parent}
 use Rattle.address.specs.Reading.{IsAddress, OnWay}
-use Rattle.address.specs.Search.{lookedAt, isPrefix}
-use Rattle.address.proofs.Prefixes.{lookedAt-step, number-child, kindLooked-stepBits, indexLooked-stepBits, onway-prefix, prefix-onway, host-onway, steps-injective}
+use Rattle.search.specs.Search.{lookedAt, isPrefix}
+use Rattle.address.proofs.Ancestors.{number-child, host-onway, steps-injective}
+use Rattle.search.proofs.Prefixes.{lookedAt-step, kindLooked-stepBits, indexLooked-stepBits, onway-prefix, prefix-onway}
 use Rattle.node.specs.Node.{addressIn, count, isGood}
 use Rattle.node.specs.declared.Node.{Node}
 use Rattle.forward.specs.Forward.{Answer, delivered, upTo, downTo, refused, toward, nextHop}

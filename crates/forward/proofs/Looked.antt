@@ -14,9 +14,10 @@ use Rattle.address.specs.Bits.{Bit, O, I, bits, number, digit}
 use Rattle.address.specs.Steps.{Step, child, steps, addressOf, stepBits, lastOf}
 use Rattle.address.specs.Address.{bitLength, isHost}
 use Rattle.address.specs.Reading.{IsAddress}
-use Rattle.address.specs.Search.{lookedAt, childEnd, prefix, isPrefix, kindLooked}
+use Rattle.search.specs.Search.{lookedAt, childEnd, prefix, isPrefix, kindLooked}
 use Rattle.address.proofs.Steps.{addressOf-child}
-use Rattle.address.proofs.Prefixes.{lookedAt-step, number-child, prefix-childEnd, kindLooked-stepBits, prefix-onway}
+use Rattle.address.proofs.Ancestors.{number-child}
+use Rattle.search.proofs.Prefixes.{lookedAt-step, prefix-childEnd, kindLooked-stepBits, prefix-onway}
 use Rattle.forward.proofs.Hops.{next-step}
 
 -- the last bit of a child's address tells its kind

@@ -7,7 +7,7 @@ use mathlib.Core.List.{List, _++_}
 use lib.ListN.{drop}
 use Rattle.address.specs.Bits.{Bit, bits, number}
 use Rattle.address.specs.Address.{bitLength, isHost, parent}
-use Rattle.address.specs.Search.{lookedAt, isPrefix, kindLooked, indexLooked}
+use Rattle.search.specs.Search.{lookedAt, isPrefix, kindLooked, indexLooked}
 use Rattle.node.specs.Node.{addressIn, count, isGood}
 use Rattle.node.specs.declared.Node.{Node}
 use Rattle.forward.specs.Forward.{Answer, delivered, upTo, downTo, refused, toward, rules, nextHop}

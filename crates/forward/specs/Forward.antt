@@ -7,7 +7,7 @@ use lib.Dec.{eqb, ltb}
 use Rattle.address.specs.Choice.{if_then_else_}
 use Rattle.address.specs.Bits.{Bit, bits, number}
 use Rattle.address.specs.Address.{bitLength, isHost, parent}
-use Rattle.address.specs.Search.{lookedAt, isPrefix, kindLooked, indexLooked}
+use Rattle.search.specs.Search.{lookedAt, isPrefix, kindLooked, indexLooked}
 use Rattle.node.specs.Node.{addressIn, count, isGood}
 use Rattle.node.specs.declared.Node.{Node}
 use Rattle.forward.specs.declared.Hop.{Hop}

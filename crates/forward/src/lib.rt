@@ -11,7 +11,7 @@ ghost use Rattle.address.specs.Choice.{if_then_else_};
 ghost use Rattle.address.specs.Bits.{bits};
 ghost use Rattle.address.specs.Address.{bitLength, isHost};
 ghost use Rattle.address.specs.Reading.{IsAddress};
-ghost use Rattle.address.specs.Search.{lookedAt, isPrefix};
+ghost use Rattle.search.specs.Search.{lookedAt, isPrefix};
 ghost use Rattle.address.specs.declared.Kind.the-variants.{Router, Host};
 ghost use Rattle.forward.specs.Forward.{answer, toward, nextHop};
 
@@ -46,8 +46,8 @@ fn toward(node: Node, destination: Address) -> Hop
     ensures { λ r. ⌜ answer r ≡ toward node (lookedAt (drop (bitLength (node .address .number)) (bits (destination .number)))) ⌝ }
 {
     let length = node.address.bit_length();
-    let end = destination.child_end(length);
-    let child = destination.prefix(end);
+    let end = search::child_end(destination, length);
+    let child = search::prefix(destination, end);
     let index = end - length - 1;
     if index < node.count(kind_of(child)) as u32 {
         return Hop::Child(child);
@@ -72,7 +72,7 @@ pub fn next_hop(node: Node, destination: Address) -> Hop
     if here.is_host() {
         return Hop::Parent(here.parent());
     }
-    if destination.prefix(here.bit_length()).number != here.number {
+    if search::prefix(destination, here.bit_length()).number != here.number {
         return Hop::Parent(here.parent());
     }
     toward(node, destination)

@@ -5,7 +5,7 @@ use Rattle.address.specs.Bits.{lastBit, bitsIn, bits, digit, numberFrom, number
 use Rattle.address.specs.Steps.{lastStep, cut, stepsOf, steps, lastOf, stepBits, spelled, addressOf}
 use Rattle.address.specs.Address.{bitLength, endsInOne, isHost, above, parent}
 use Rattle.octets.specs.Octets.{octets, joined, value, refuseWriting, write}
-use Rattle.address.specs.Search.{lookedAt, sameBit, isPrefix, kindLooked, indexLooked}
+use Rattle.search.specs.Search.{lookedAt, sameBit, isPrefix, kindLooked, indexLooked}
 use Rattle.node.specs.Node.{fresh, withCounts, count, raised, isGood, childBits, refuse, childOf}
 use Rattle.forward.specs.Forward.{toward, rules, nextHop}
 use Rattle.header.specs.Header.{size, sizeAllowed, place, header, writing, inOrder, startFault, sizeTold, addressOctets, zeroFault, addressFault, reading}

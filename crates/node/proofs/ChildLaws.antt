@@ -18,7 +18,7 @@ use Rattle.address.specs.Reading.{IsAddress}
 use Rattle.address.specs.declared.Address.{Address}
 use Rattle.address.proofs.Numbers.{lt-bitLength}
 use Rattle.address.proofs.Steps.{addressOf-steps, addressOf-child}
-use Rattle.address.proofs.Prefixes.{number-child}
+use Rattle.address.proofs.Ancestors.{number-child}
 use Rattle.node.specs.Node.{Node, addressIn, addressAt, count, raised, isGood, childBits, refuse, childOf}
 
 -- the children of each kind that a node has room for

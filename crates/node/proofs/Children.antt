@@ -16,7 +16,7 @@ use Rattle.address.specs.Reading.{IsAddress}
 use Rattle.address.specs.declared.Kind.{Kind}
 use Rattle.address.specs.declared.Kind.the-variants.{Router, Host}
 use Rattle.address.proofs.Steps.{spelled-steps, addressOf-steps, length-spelled, address-addressOf, steps-addressOf, parent-addressOf}
-use Rattle.address.proofs.Prefixes.{number-child, routers-steps}
+use Rattle.address.proofs.Ancestors.{number-child, routers-steps}
 use Rattle.node.specs.Node.{Node, Given, addressIn, addressAt, fresh, count, raised, isGood, childBits, refuse, childOf}
 use Rattle.node.proofs.ChildLaws.{room, some-good, isGood-host, isGood-hosts, length-childBits, childOf-bad, childOf-host, childOf-long, childOf-done}
 

@@ -14,7 +14,7 @@ use Rattle.address.specs.declared.Kind.the-variants.{Router as router, Host as 
 use Rattle.address.specs.Reading.{IsAddress, OnWay}
 use Rattle.address.proofs.Numbers.{bits-string}
 use Rattle.address.proofs.Steps.{spelled-steps, length-spelled, length-lt-spelled, depth-range}
-use Rattle.address.proofs.Prefixes.{routers-above}
+use Rattle.address.proofs.Ancestors.{routers-above}
 use Rattle.route.specs.Path.{turn}
 use Rattle.route.specs.TurningPoint.{IsTurningPoint, AtMost126}
 use Rattle.route.proofs.Turning.{onWay-next, turning-points}

@@ -15,7 +15,7 @@ use Rattle.address.specs.Address.{depth, parent}
 use Rattle.address.specs.Reading.{IsAddress, OnWay}
 use Rattle.address.proofs.Numbers.{bitLength-le}
 use Rattle.address.proofs.Steps.{addressOf-steps, addressOf-root, addressOf-child, parent-addressOf, depth-range}
-use Rattle.address.proofs.Prefixes.{routers-above, length-tail, address-tail, steps-tail, steps-injective}
+use Rattle.address.proofs.Ancestors.{routers-above, length-tail, address-tail, steps-tail, steps-injective}
 use Rattle.route.specs.Path.{isOnWay, turn, below, pathOf, path, hops}
 use Rattle.route.proofs.Turning.{onWay-root, onWay-length, onWay-next, isOnWay-true, isOnWay-false, turn-on, turn-on-comm, turn-off, turning-points, pathOf-turn, pathOf-on-comm, pathOf-self, pathOf-up, pathOf-down, pathOf-first, pathOf-last, length-pathOf, length-pathOf-cons, mem-pathOf}
 

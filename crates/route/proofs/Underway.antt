@@ -11,9 +11,10 @@ use lib.Seq.{take-suc-set, take-all}
 use Rattle.address.specs.Bits.{bits}
 use Rattle.address.specs.Steps.{Step, steps}
 use Rattle.address.specs.Address.{bitLength, parent}
-use Rattle.address.specs.Search.{childEnd, prefix}
+use Rattle.search.specs.Search.{childEnd, prefix}
 use Rattle.address.specs.Reading.{IsAddress, OnWay}
-use Rattle.address.proofs.Prefixes.{steps-injective, prefix-childEnd}
+use Rattle.address.proofs.Ancestors.{steps-injective}
+use Rattle.search.proofs.Prefixes.{prefix-childEnd}
 use Rattle.route.specs.Path.{path}
 use Rattle.route.proofs.Turning.{onWay-cases, onWay-next, onWay-antisym}
 use Rattle.route.proofs.PathLaws.{steps-onWay, off-root, steps-parent, path-self, length-path-pos, Next, next-up, next-down}

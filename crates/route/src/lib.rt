@@ -60,7 +60,7 @@ fn list_down(top: Address, second: Address, words: &mut [u64])
     while a.number != second.number {
         words[i] = a.number;
         i += 1;
-        a = second.prefix(second.child_end(a.bit_length()));
+        a = search::prefix(second, search::child_end(second, a.bit_length()));
     }
 }
 

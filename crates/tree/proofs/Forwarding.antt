@@ -17,7 +17,7 @@ use Rattle.address.specs.Address.{depth, parent}
 use Rattle.octets.specs.Octets.{AreOctets}
 use Rattle.address.specs.Reading.{IsAddress, OnWay}
 use Rattle.address.proofs.Steps.{addressOf-steps, addressOf-root}
-use Rattle.address.proofs.Prefixes.{steps-injective}
+use Rattle.address.proofs.Ancestors.{steps-injective}
 use Rattle.octets.proofs.OctetLaws.{append-octets, octets-octets}
 use Rattle.header.specs.Header.{header, place, size}
 use Rattle.header.proofs.Size.{size-le, size-ge}

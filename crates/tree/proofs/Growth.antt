@@ -16,7 +16,7 @@ use Rattle.address.specs.Steps.{Step, child, steps}
 use Rattle.address.specs.Address.{depth, above, parent}
 use Rattle.address.specs.Reading.{IsAddress}
 use Rattle.address.proofs.Steps.{addressOf-steps, depth-range}
-use Rattle.address.proofs.Prefixes.{steps-injective}
+use Rattle.address.proofs.Ancestors.{steps-injective}
 use Rattle.node.specs.Node.{addressIn, fresh, count, raised, isGood, childBits, refuse, childOf}
 use Rattle.node.specs.declared.Node.{Node}
 use Rattle.node.proofs.Children.{addressIn-fresh, count-fresh, addressIn-raised, count-raised, isGood-fresh}

@@ -13,7 +13,7 @@ use Rattle.address.specs.Steps.{Step, steps, addressOf}
 use Rattle.address.specs.Address.{depth, parent}
 use Rattle.address.specs.Reading.{IsAddress, OnWay}
 use Rattle.address.proofs.Steps.{addressOf-steps, depth-range}
-use Rattle.address.proofs.Prefixes.{steps-injective}
+use Rattle.address.proofs.Ancestors.{steps-injective}
 use Rattle.route.specs.Path.{isOnWay, path}
 use Rattle.route.proofs.Turning.{onWay-next, isOnWay-true, isOnWay-false}
 use Rattle.route.proofs.PathLaws.{address-onWay, steps-onWay, depth-steps, off-root, address-parent, steps-parent, length-path-pos, path-self, path-up, path-down, path-once}

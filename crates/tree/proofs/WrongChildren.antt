@@ -11,7 +11,7 @@ use Rattle.address.specs.Bits.{bits, bitsIn, lastBit, digit, number, numberFrom
 use Rattle.address.specs.Steps.{stepBits, lastOf}
 use Rattle.address.specs.Address.{bitLength, isHost, endsInOne}
 use Rattle.octets.specs.Octets.{octets, value, joined}
-use Rattle.address.specs.Search.{lookedAt, isPrefix, sameBit, kindLooked, indexLooked}
+use Rattle.search.specs.Search.{lookedAt, isPrefix, sameBit, kindLooked, indexLooked}
 use Rattle.address.specs.declared.Kind.{Kind}
 use Rattle.address.specs.declared.Kind.the-variants.{Router, Host}
 use Rattle.header.specs.Header.{header, size, reading, startFault, inOrder, sizeTold, addressFault, sizeAllowed, zeroFault, addressOctets}

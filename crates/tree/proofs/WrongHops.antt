@@ -12,7 +12,7 @@ use Rattle.address.specs.declared.Kind.the-variants.{Router as router, Host as 
 use Rattle.address.specs.Bits.{bits, bitsIn, lastBit, digit, number, numberFrom}
 use Rattle.address.specs.Steps.{stepBits, lastOf, steps, stepsOf, cut, lastStep, addressOf, spelled}
 use Rattle.address.specs.Address.{bitLength, endsInOne, isHost, above, parent}
-use Rattle.address.specs.Search.{lookedAt, isPrefix, sameBit, kindLooked, indexLooked}
+use Rattle.search.specs.Search.{lookedAt, isPrefix, sameBit, kindLooked, indexLooked}
 use Rattle.address.specs.Reading.{IsAddress}
 use Rattle.header.specs.Header.{header, reading, Answer as Reading}
 use Rattle.header.proofs.Demand2.{reading-header}

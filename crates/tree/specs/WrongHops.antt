@@ -8,7 +8,7 @@ use lib.Dec.{eqb, ltb}
 use Rattle.address.specs.Choice.{if_then_else_}
 use Rattle.address.specs.Bits.{Bit, O, I, bits, number}
 use Rattle.address.specs.Address.{bitLength, endsInOne, isHost, parent}
-use Rattle.address.specs.Search.{lookedAt, isPrefix, kindLooked, indexLooked}
+use Rattle.search.specs.Search.{lookedAt, isPrefix, kindLooked, indexLooked}
 use Rattle.address.specs.declared.Kind.{Kind}
 use Rattle.address.specs.declared.Kind.the-variants.{Router as router}
 use Rattle.header.specs.Header.{reading}

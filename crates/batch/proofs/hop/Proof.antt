@@ -9,8 +9,8 @@ use borrow.Author.Tests.{not-true, not-false}
 use Rattle.address.specs.Bits.{bits, longest}
 use Rattle.address.specs.Address.{bitLength, isHost, parent}
 use Rattle.address.specs.Reading.{IsAddress}
-use Rattle.address.specs.Search.{prefix, isPrefix}
-use Rattle.address.proofs.Prefixes.{prefix-eq, prefix-isPrefix}
+use Rattle.search.specs.Search.{prefix, isPrefix}
+use Rattle.search.proofs.Prefixes.{prefix-eq, prefix-isPrefix}
 use Rattle.node.specs.Node.{addressIn, isGood}
 use Rattle.node.proofs.Children.{address-good}
 use Rattle.forward.specs.Forward.{delivered, upTo, nextHop}

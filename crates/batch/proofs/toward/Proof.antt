@@ -12,9 +12,9 @@ use Rattle.address.specs.declared.Kind.the-variants.{Router, Host}
 use Rattle.address.specs.Choice.{if_then_else_}
 use Rattle.address.specs.Bits.{Bit, bits}
 use Rattle.address.specs.Address.{bitLength}
-use Rattle.address.specs.Search.{lookedAt, childEnd, prefix, kindLooked, indexLooked}
+use Rattle.search.specs.Search.{lookedAt, childEnd, prefix, kindLooked, indexLooked}
 use Rattle.address.proofs.Numbers.{bitLength-le}
-use Rattle.address.proofs.SearchLaws.{prefix-shr}
+use Rattle.search.proofs.SearchLaws.{prefix-shr}
 use Rattle.node.specs.Node.{count}
 use Rattle.forward.specs.Forward.{downTo, toward}
 use Rattle.forward.proofs.Rules.{toward-given, toward-absent}

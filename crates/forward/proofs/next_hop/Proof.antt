@@ -9,8 +9,8 @@ use borrow.Author.Tests.{not-true, not-false}
 use Rattle.address.specs.Bits.{bits, longest}
 use Rattle.address.specs.Address.{bitLength, isHost, parent}
 use Rattle.address.specs.Reading.{IsAddress}
-use Rattle.address.specs.Search.{prefix, isPrefix}
-use Rattle.address.proofs.Prefixes.{prefix-eq, prefix-isPrefix}
+use Rattle.search.specs.Search.{prefix, isPrefix}
+use Rattle.search.proofs.Prefixes.{prefix-eq, prefix-isPrefix}
 use Rattle.node.specs.Node.{addressIn, isGood}
 use Rattle.node.proofs.Children.{address-good}
 use Rattle.forward.specs.Forward.{answer, delivered, upTo, nextHop}
@@ -23,7 +23,7 @@ use Rattle.forward.proofs.next_hop.Lts as lts
 use Rattle.address.proofs.Address.bit_length.Reads as bit-length-reads
 use Rattle.address.proofs.Address.is_host.Reads as is-host-reads
 use Rattle.address.proofs.Address.parent.Reads as parent-reads
-use Rattle.address.proofs.Address.prefix.Reads as prefix-reads
+use Rattle.search.proofs.prefix.Reads as prefix-reads
 use Rattle.forward.proofs.toward.Reads as toward-reads
 use Rattle.node.proofs.Node.is_good.Reads as is-good-reads
 

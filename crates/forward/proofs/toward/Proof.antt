@@ -13,7 +13,7 @@ use Rattle.address.specs.Choice.{if_then_else_}
 use Rattle.address.specs.Bits.{Bit, bits}
 use Rattle.address.specs.Address.{bitLength, isHost}
 use Rattle.address.specs.Reading.{IsAddress}
-use Rattle.address.specs.Search.{lookedAt, childEnd, prefix, kindLooked, indexLooked}
+use Rattle.search.specs.Search.{lookedAt, childEnd, prefix, kindLooked, indexLooked}
 use Rattle.node.specs.Node.{count}
 use Rattle.forward.specs.Forward.{answer, downTo, toward}
 use Rattle.forward.proofs.Rules.{toward-given, toward-absent}
@@ -24,8 +24,8 @@ use Rattle.forward.proofs.toward.Tie as tie
 use Rattle.forward.proofs.toward.Reads as reads
 use Rattle.forward.proofs.toward.Lts as lts
 use Rattle.address.proofs.Address.bit_length.Reads as bit-length-reads
-use Rattle.address.proofs.Address.child_end.Reads as child-end-reads
-use Rattle.address.proofs.Address.prefix.Reads as prefix-reads
+use Rattle.search.proofs.child_end.Reads as child-end-reads
+use Rattle.search.proofs.prefix.Reads as prefix-reads
 use Rattle.forward.proofs.kind_of.Reads as kind-of-reads
 use Rattle.node.proofs.Node.count.Reads as count-reads
 

@@ -1,11 +1,11 @@
--- `Address::prefix` meets its contract: a shift leaves the first bits, all of them where it has no more.
+-- `prefix` meets its contract: a shift leaves the first bits, all of them where it has no more.
 use mathlib.Core.Path.{sym, _∙_}
 use borrow.Author.Needs.{needs}
 use native.Mathlib.Omega.{arith}
 use Rattle.address.proofs.Numbers.{bitLength-le}
-use Rattle.address.proofs.SearchLaws.{prefix-whole, prefix-shr-half}
-use Rattle.address.proofs.Address.prefix.Statement.{statement}
-use Rattle.address.proofs.Address.prefix.Tie as tie
+use Rattle.search.proofs.SearchLaws.{prefix-whole, prefix-shr-half}
+use Rattle.search.proofs.prefix.Statement.{statement}
+use Rattle.search.proofs.prefix.Tie as tie
 
 bit-length-requires : tie.Need-bit-length-requires
 bit-length-requires c κs = search needs
@@ -23,7 +23,7 @@ cast-of : tie.Need-cast-of
 cast-of c = search needs
 
 shr-of : tie.Need-shr-of
-shr-of c = omega (arith, bitLength-le {n = c .before .before .before .args .self .number} (omega arith))
+shr-of c = omega (arith, bitLength-le {n = c .before .before .before .args .address .number} (omega arith))
 
 of-requires : tie.Need-of-requires
 of-requires c κs = search needs

@@ -3,18 +3,21 @@
 use mathlib.Core.Path.{_≡_, refl, sym, ap, ap₂, _∙_, subst}
 use mathlib.Core.Bool.{true, false, and-eq-true-iff}
 use mathlib.Core.List.{List, [], _∷_, _++_, append-assoc, append-nil}
-use Prim.Native.Nat.{ℕ, zero, suc, _+_, _<_, _≤_}
+use Prim.Native.Nat.{ℕ, zero, suc, _+_, _<_}
 use native.Mathlib.Omega.{arith}
 use lib.ListN.{length, take, drop, replicate, length-append, length-take, length-replicate, take-append-drop}
 use lib.Seq.{append-snoc, take-at, drop-at}
-use Rattle.address.specs.Bits.{Bit, O, I, bits, digit, number, longest}
-use Rattle.address.specs.Steps.{Kind, router, host, Step, child, lastStep, cut, stepsOf, steps, lastOf, stepBits, spelled, addressOf}
+use Rattle.address.specs.Bits.{Bit, O, I, bits, digit}
+use Rattle.address.specs.declared.Kind.{Kind}
+use Rattle.address.specs.declared.Kind.the-variants.{Router as router, Host as host}
+use Rattle.address.specs.Steps.{Step, child, lastStep, cut, stepsOf, steps, lastOf, stepBits, spelled, addressOf}
 use Rattle.address.specs.Address.{bitLength, isHost}
-use Rattle.address.specs.Reading.{IsAddressString, IsAddress, AllRouters, IsReading, OnWay}
-use Rattle.address.specs.Search.{lookedAt, childEnd, prefix, sameBit, isPrefix, kindLooked, indexLooked}
-use Rattle.address.proofs.Numbers.{number-bits, bits-number, bits-string, bitLength-le, bitLength-pos}
-use Rattle.address.proofs.Steps.{reading-routers, reading-steps, spelled-steps, addressOf-steps, address-addressOf, steps-addressOf, stepsOf-routers}
-use Rattle.address.proofs.Answers.{endsInOne-snoc, hostLast, hostLast-routers, isHost-steps}
+use Rattle.address.specs.Reading.{IsAddressString, IsAddress, IsReading, OnWay}
+use Rattle.search.specs.Search.{lookedAt, childEnd, prefix, sameBit, isPrefix, kindLooked, indexLooked}
+use Rattle.address.proofs.Numbers.{number-bits, bits-number, bits-string, bitLength-pos}
+use Rattle.address.proofs.Steps.{reading-steps, spelled-steps, stepsOf-routers}
+use Rattle.address.proofs.Answers.{endsInOne-snoc}
+use Rattle.address.proofs.Ancestors.{behind, routers-tail, routers-steps, bits-tail}
 
 -- one string begins another where something behind it makes the other
 
@@ -40,16 +43,6 @@ isPrefix-true (c ∷ cs) (d ∷ ds) e =
     let more = isPrefix-true cs ds (both .1) in
     (more .0, ap₂ (λ (b : Bit) (bs : List Bit). b ∷ bs) (sym (sameBit-true c d (both .0))) (more .1))
 
--- the bits behind those of the first steps
-behind : List Step → List Bit
-behind [] = []
-behind (s ∷ more) = behind more ++ stepBits s
-
-spelled-append : (more ss : List Step) → spelled (more ++ ss) ≡ spelled ss ++ behind more
-unfolding spelled behind
-spelled-append [] ss = sym (append-nil (spelled ss))
-spelled-append (s ∷ more) ss = rw (spelled-append more ss, append-assoc)
-
 cut-onway : (k : ℕ) (done : List Step) (bs : List Bit) → OnWay done (cut k done bs)
 unfolding cut lastStep
 cut-onway zero done [] = ([], refl)
@@ -59,51 +52,10 @@ cut-onway k done (O ∷ bs) =
     (more .0 ++ (child router k ∷ []), more .1 ∙ sym (append-snoc (more .0) (child router k) done))
 cut-onway k done (I ∷ bs) = cut-onway (suc k) done bs
 
--- what stands below another step leads to routers
-
-routers-tail : (more ss : List Step) → AllRouters (more ++ ss) → AllRouters ss
-routers-tail [] ss r = r
-routers-tail (child router i ∷ more) ss r = routers-tail more ss r
-routers-tail (child host i ∷ more) ss r = absurd r
-
-reading-tail : (more ss : List Step) → IsReading (more ++ ss) → IsReading ss
-reading-tail [] ss r = r
-reading-tail (s ∷ more) ss r = reading-routers ss (routers-tail more ss r)
-
-routers-reading : (ss : List Step) → IsReading ss → hostLast ss ≡ false → AllRouters ss
-routers-reading [] r e = tt
-routers-reading (child router i ∷ up) r e = r
-routers-reading (child host i ∷ up) r e = let z : _≡_ {A = ℕ} 0 1 = cc in absurd (omega arith)
-
-pub routers-steps : {c : ℕ} → IsAddress c → isHost c ≡ false → AllRouters (steps c)
-routers-steps {c} a h = routers-reading (steps c) (reading-steps c) (sym (isHost-steps a) ∙ h)
-
--- only the last step leads to a host
-pub routers-above : (d : ℕ) (s : Step) (more ss : List Step) → steps d ≡ s ∷ (more ++ ss) → AllRouters ss
-routers-above d s more ss e = routers-tail more ss (rw e at (reading-steps d))
-
--- the first steps of an address, as an address
-
 module _ {d : ℕ} (b : IsAddress d) (more ss : List Step) (e : steps d ≡ more ++ ss) where
-  bits-tail : bits d ≡ spelled ss ++ behind more
-  bits-tail = rw (← spelled-steps b, e) (spelled-append more ss)
-
-  pub length-tail : length (spelled ss) ≤ bitLength d
-  unfolding bitLength
-  length-tail = rw (bits-tail, length-append) (omega arith)
-
-  short-tail : length (spelled ss) ≤ longest
-  short-tail = omega (arith, length-tail, bitLength-le (b .fits))
-
-  pub address-tail : IsAddress (addressOf ss)
-  address-tail = address-addressOf ss short-tail
-
-  pub steps-tail : steps (addressOf ss) ≡ ss
-  steps-tail = steps-addressOf ss short-tail (reading-tail more ss (rw e at (reading-steps d)))
-
   pub prefix-tail : prefix (length (spelled ss)) d ≡ addressOf ss
   unfolding prefix addressOf
-  prefix-tail = rw (bits-tail, take-at (spelled ss) (behind more) (length (spelled ss)) refl)
+  prefix-tail = rw (bits-tail b more ss e, take-at (spelled ss) (behind more) (length (spelled ss)) refl)
 
 -- the next step on the way to an address
 
@@ -118,10 +70,6 @@ unfolding lookedAt stepBits lastOf behind
 lookedAt-behind (child router i) more up r = rw append-assoc (lookedAt-ones i (O ∷ behind more))
 lookedAt-behind (child host i) [] up r = rw append-nil (lookedAt-ones i (I ∷ []))
 lookedAt-behind (child host i) (s ∷ more) up r = absurd (routers-tail more (child host i ∷ up) r)
-
-pub number-child : {x : ℕ} → IsAddress x → (s : Step) → number (bits x ++ stepBits s) ≡ addressOf (s ∷ steps x)
-unfolding addressOf spelled
-number-child a s = rw (spelled-steps a)
 
 module _ {x d : ℕ} (a : IsAddress x) (b : IsAddress d) (more : List Step) (s : Step) (e : steps d ≡ more ++ s ∷ steps x) where
   pub lookedAt-step : lookedAt (drop (bitLength x) (bits d)) ≡ stepBits s
@@ -158,9 +106,6 @@ string-take {bs} s (suc k) p = record {
 -- two addresses: the first on the way to the second, or not
 
 module _ {c d : ℕ} (a : IsAddress c) (b : IsAddress d) where
-  pub steps-injective : steps c ≡ steps d → c ≡ d
-  steps-injective e = sym (addressOf-steps a) ∙ ap addressOf e ∙ addressOf-steps b
-
   pub onway-prefix : OnWay (steps c) (steps d) → isPrefix (bits c) (bits d) ≡ true
   onway-prefix (more, e) = rw (bits-tail b more (steps c) e, ← spelled-steps a) (isPrefix-append (spelled (steps c)) (behind more))
 
@@ -172,17 +117,6 @@ module _ {c d : ℕ} (a : IsAddress c) (b : IsAddress d) where
       ap stepsOf (split .1 ∙ ap (λ (bs : List Bit). bs ++ split .0) (sym (spelled-steps a))) ∙ stepsOf-routers (steps c) (split .0) (routers-steps a h) in
       let more = cut-onway 0 (steps c) (split .0) in
       (more .0, cutting ∙ more .1)
-
-  -- no step follows one that leads to a host
-  pub host-onway : isHost c ≡ true → OnWay (steps c) (steps d) → c ≡ d
-  host-onway h (more, e) = go more e
-    where
-      go : (more : List Step) → steps d ≡ more ++ steps c → c ≡ d
-      go [] e = steps-injective (sym e)
-      go (s ∷ more) e =
-          let last = hostLast-routers (steps c) (routers-tail more (steps c) (rw e at (reading-steps d))) in
-          let z : _≡_ {A = ℕ} 0 1 = cc (isHost-steps a) in
-          absurd (omega arith)
 
   -- the prefix as the code compares it
 

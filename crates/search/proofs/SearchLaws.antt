@@ -8,10 +8,10 @@ use native.Mathlib.Omega.{arith}
 use lib.ListN.{length, take, drop, getD, length-drop, take-append-drop, drop-of-length-le}
 use lib.Seq.{take-suc, take-all, drop-cons}
 use lib.Pow.{shr-shr}
 use Rattle.address.specs.Bits.{Bit, O, I, bits, digit, numberFrom, number, longest}
 use Rattle.address.specs.Address.{bitLength}
-use Rattle.address.specs.Search.{lookedAt, childEnd, prefix}
+use Rattle.search.specs.Search.{lookedAt, childEnd, prefix}
 use Rattle.address.proofs.Numbers.{digit-lt, numberFrom-append, number-snoc, number-bits}
 
 numberFrom-shr : (n : ℕ) (bs : List Bit) → numberFrom n bs / 2 ^ length bs ≡ n
 unfolding numberFrom

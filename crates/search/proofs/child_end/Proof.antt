@@ -1,20 +1,20 @@
--- `Address::child_end` meets its contract: however many ones were passed, the child's bits end where they do from here.
+-- `child_end` meets its contract: however many ones were passed, the child's bits end where they do from here.
 use mathlib.Core.Path.{_≡_, refl, sym, _∙_}
 use Prim.Native.Nat.{_-_}
 use borrow.Author.Needs.{needs}
 use native.Mathlib.Omega.{arith}
 use Rattle.address.specs.Bits.{bits}
-use Rattle.address.specs.Search.{childEnd}
+use Rattle.search.specs.Search.{childEnd}
 use Rattle.address.proofs.Numbers.{bitLength-le}
-use Rattle.address.proofs.SearchLaws.{childEnd-past, childEnd-zero, childEnd-one}
-use Rattle.address.proofs.Address.child_end.Statement.{statement}
-use Rattle.address.proofs.Address.child_end.Tie as tie
+use Rattle.search.proofs.SearchLaws.{childEnd-past, childEnd-zero, childEnd-one}
+use Rattle.search.proofs.child_end.Statement.{statement}
+use Rattle.search.proofs.child_end.Tie as tie
 
 abbrev Inv-loop : tie.InvT-loop
-Inv-loop self from length at₀ at = childEnd at₀ (bits (self .number)) ≡ childEnd at (bits (self .number))
+Inv-loop address from length at₀ at = childEnd at₀ (bits (address .number)) ≡ childEnd at (bits (address .number))
 
 abbrev μ-loop : tie.MeasureT-loop
-μ-loop self from length at₀ at = length - at
+μ-loop address from length at₀ at = length - at
 
 bit-length-requires : tie.Need-bit-length-requires Inv-loop μ-loop
 bit-length-requires c κs = search needs
@@ -29,13 +29,13 @@ sub-bit-2 : tie.Need-sub-bit-2 Inv-loop μ-loop
 sub-bit-2 c = omega arith
 
 cast-bit : tie.Need-cast-bit Inv-loop μ-loop
-cast-bit c = omega (arith, bitLength-le {n = c .before .before .before .args .self .number} (omega arith))
+cast-bit c = omega (arith, bitLength-le {n = c .before .before .before .args .address .number} (omega arith))
 
 shr-bit : tie.Need-shr-bit Inv-loop μ-loop
-shr-bit c = omega (arith, bitLength-le {n = c .before .before .before .before .args .self .number} (omega arith))
+shr-bit c = omega (arith, bitLength-le {n = c .before .before .before .before .args .address .number} (omega arith))
 
 add-at : tie.Need-add-at Inv-loop μ-loop
-add-at c = omega (arith, bitLength-le {n = c .before .before .before .before .args .self .number} (omega arith))
+add-at c = omega (arith, bitLength-le {n = c .before .before .before .before .args .address .number} (omega arith))
 
 loop-less : tie.Need-loop-less Inv-loop μ-loop
 loop-less c = omega arith

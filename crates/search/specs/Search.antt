@@ -4,10 +4,11 @@ use Prim.Native.Nat.{ℕ, _+_, _-_}
 use mathlib.Core.Bool.{Bool, true, false, _&&_}
 use mathlib.Core.List.{List, [], _∷_}
 use lib.ListN.{length, take, drop}
 use Rattle.address.specs.Choice.{if_then_else_}
 use Rattle.address.specs.Bits.{Bit, O, I, bits, number}
-use Rattle.address.specs.Steps.{Kind, router, host}
+use Rattle.address.specs.declared.Kind.{Kind}
+use Rattle.address.specs.declared.Kind.the-variants.{Router as router, Host as host}
 use Rattle.address.specs.Address.{endsInOne}
 
 -- the bits looked at: up to the first 0, or all of them
 unfoldable pub lookedAt : List Bit → List Bit

@@ -1,0 +1,3 @@
+-- The laws of the search crate.
+pub mod SearchLaws
+pub mod Prefixes

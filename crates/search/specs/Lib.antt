@@ -1,0 +1,2 @@
+-- What the search crate promises, in definitions alone.
+pub mod Search

@@ -1,0 +1,37 @@
+// The search for the next child on the way to an address, and the prefix that names it.
+use address::Address;
+ghost use mathlib.Core.Path.{_≡_};
+ghost use Rattle.address.specs.Bits.{bits};
+ghost use Rattle.search.specs.Search.{childEnd, prefix};
+
+// Where the bits of the next child on the way to an address end, counted from the front, where the first `from` bits are behind: at the
+// first 0, or at the last bit.
+pub fn child_end(address: Address, from: u32) -> u32
+    ensures { λ r. ⌜ r ≡ childEnd from (bits (address .number)) ⌝ }
+{
+    let length = address.bit_length();
+    let mut at = from;
+    let end = loop {
+        if length <= at {
+            break at;
+        }
+        let bit = (address.number >> (length - 1 - at)) % 2;
+        at += 1;
+        if bit == 0 {
+            break at;
+        }
+    };
+    end
+}
+
+// The address of the first `count` bits: all of it where it has no more, and zero where `count` is zero.
+pub fn prefix(address: Address, count: u32) -> Address
+    ensures { λ r. ⌜ r .number ≡ prefix count (address .number) ⌝ }
+{
+    let length = address.bit_length();
+    if length <= count {
+        return address;
+    }
+    // One bit less, and then that one: where `count` is zero, all 64 may have to go, and no shift takes so many.
+    Address::of((address.number >> (length - count - 1)) / 2)
+}
