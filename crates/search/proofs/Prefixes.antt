@@ -1,7 +1,7 @@
 -- Prefixes of bits are ancestors by steps. Whatever spells more steps spells the ancestor's bits first, and cutting routers' bits leaves
 -- these routers done, so the bits behind only add steps. A host has no step behind it, since only the last step of a reading leads to one.
 use mathlib.Core.Path.{_≡_, refl, sym, ap, ap₂, _∙_, subst}
-use mathlib.Core.Bool.{true, false, and-eq-true-iff}
+use mathlib.Core.Bool.{Bool, true, false, and-eq-true-iff}
 use mathlib.Core.List.{List, [], _∷_, _++_, append-assoc, append-nil}
 use Prim.Native.Nat.{ℕ, zero, suc, _+_, _<_}
 use native.Mathlib.Omega.{arith}
@@ -125,6 +125,13 @@ module _ {c d : ℕ} (a : IsAddress c) (b : IsAddress d) where
   prefix-eq p =
       let split = isPrefix-true (bits c) (bits d) p in
       rw (split .1, take-at (bits c) (split .0) (length (bits c)) refl) (number-bits (a .fits))
+
+  pub no-prefix : (prefix (bitLength c) d ≡ c → ⊥) → isPrefix (bits c) (bits d) ≡ false
+  no-prefix other = go (isPrefix (bits c) (bits d)) refl
+    where
+      go : (t : Bool) → isPrefix (bits c) (bits d) ≡ t → t ≡ false
+      go true e = absurd (other (prefix-eq e))
+      go false e = refl
 
   pub prefix-ancestor : OnWay (steps c) (steps d) → prefix (bitLength c) d ≡ c
   prefix-ancestor w = prefix-eq (onway-prefix w)

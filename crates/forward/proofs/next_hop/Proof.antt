@@ -1,16 +1,15 @@
 -- `forward::next_hop` meets its contract: each return is one of the rules, and the prefix that is compared is the node's own address exactly
 -- if its bits begin the destination's. Assumes nothing.
-use mathlib.Core.Path.{_≡_, refl, sym, ap, _∙_}
-use mathlib.Core.Bool.{Bool, true, false}
+use mathlib.Core.Path.{_≡_, sym, ap, _∙_}
+use mathlib.Core.Bool.{true}
 use Prim.Native.Nat.{ℕ, _<_, _^_}
 use native.Mathlib.Nat.{pos-of-ne-zero}
 use native.Mathlib.Omega.{arith}
 use borrow.Author.Tests.{not-true, not-false}
-use Rattle.address.specs.Bits.{bits, longest}
 use Rattle.address.specs.Address.{bitLength, isHost, parent}
 use Rattle.address.specs.Reading.{IsAddress}
-use Rattle.search.specs.Search.{prefix, isPrefix}
-use Rattle.search.proofs.Prefixes.{prefix-eq, prefix-isPrefix}
+use Rattle.search.specs.Search.{prefix}
+use Rattle.search.proofs.Prefixes.{no-prefix, prefix-isPrefix}
 use Rattle.node.specs.Node.{addressIn, isGood}
 use Rattle.node.proofs.Children.{address-good}
 use Rattle.forward.specs.Forward.{answer, delivered, upTo, nextHop}
@@ -43,13 +42,6 @@ start c = c .before .before .before .before .before .before .before .before .bef
 
 compared : (c : tie.After-prefix) → c .prefix .result .number ≡ prefix (bitLength (start c .args .node .address .number)) (start c .args .destination .number)
 compared c = c .prefix .ensures ∙ ap (λ (k : ℕ). prefix k (start c .args .destination .number)) (c .before .bit-length .ensures)
-
-no-prefix : {c d : ℕ} → IsAddress c → IsAddress d → (prefix (bitLength c) d ≡ c → ⊥) → isPrefix (bits c) (bits d) ≡ false
-no-prefix {c} {d} a b other = go (isPrefix (bits c) (bits d)) refl
-  where
-    go : (t : Bool) → isPrefix (bits c) (bits d) ≡ t → t ≡ false
-    go true e = absurd (other (prefix-eq a b e))
-    go false e = refl
 
 is-good-requires : tie.Need-is-good-requires
 is-good-requires c κs = search needs
