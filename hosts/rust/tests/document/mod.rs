@@ -7,10 +7,7 @@ pub type Bits = Vec<bool>;
 
 /// The binary digits of a number, none for zero.
 pub fn bits(number: u64) -> Bits {
-    if number == 0 {
-        return Vec::new();
-    }
-    format!("{number:b}").chars().map(|digit| digit == '1').collect()
+    (0..64).rev().map(|place| number >> place & 1 == 1).skip_while(|bit| !bit).collect()
 }
 
 /// "It is held right-justified in a 64-bit number".
@@ -52,7 +49,8 @@ pub fn step_bits((kind, index): Step) -> impl Iterator<Item = bool> {
 }
 
 pub fn spelled(steps: &[Step]) -> Bits {
-    let mut bits = vec![true];
+    let mut bits = Vec::with_capacity(64);
+    bits.push(true);
     for step in steps {
         bits.extend(step_bits(*step));
     }
