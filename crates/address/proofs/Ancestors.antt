@@ -9,9 +9,11 @@ use lib.ListN.{length, length-append}
 use Rattle.address.specs.Bits.{Bit, bits, number, longest}
 use Rattle.address.specs.Steps.{router, host, Step, child, steps, stepBits, spelled, addressOf}
 use Rattle.address.specs.Address.{bitLength, isHost}
-use Rattle.address.specs.Reading.{IsAddress, AllRouters, IsReading, OnWay}
+use Rattle.address.specs.Numbers.{IsAddress}
+use Rattle.address.specs.Cuts.{AllRouters, AreSteps}
+use Rattle.address.specs.Ancestors.{AncestorOrSelf}
 use Rattle.address.proofs.Numbers.{bitLength-le}
-use Rattle.address.proofs.Steps.{reading-routers, reading-steps, spelled-steps, addressOf-steps, address-addressOf, steps-addressOf}
+use Rattle.address.proofs.Steps.{areSteps-routers, areSteps-steps, spelled-steps, addressOf-steps, address-addressOf, steps-addressOf}
 use Rattle.address.proofs.Answers.{hostLast, hostLast-routers, isHost-steps}
 
 -- the bits behind those of the first steps
@@ -31,21 +33,21 @@ routers-tail [] ss r = r
 routers-tail (child router i ∷ more) ss r = routers-tail more ss r
 routers-tail (child host i ∷ more) ss r = absurd r
 
-reading-tail : (more ss : List Step) → IsReading (more ++ ss) → IsReading ss
-reading-tail [] ss r = r
-reading-tail (s ∷ more) ss r = reading-routers ss (routers-tail more ss r)
+areSteps-tail : (more ss : List Step) → AreSteps (more ++ ss) → AreSteps ss
+areSteps-tail [] ss r = r
+areSteps-tail (s ∷ more) ss r = areSteps-routers ss (routers-tail more ss r)
 
-routers-reading : (ss : List Step) → IsReading ss → hostLast ss ≡ false → AllRouters ss
-routers-reading [] r e = tt
-routers-reading (child router i ∷ up) r e = r
-routers-reading (child host i ∷ up) r e = let z : _≡_ {A = ℕ} 0 1 = cc in absurd (omega arith)
+routers-areSteps : (ss : List Step) → AreSteps ss → hostLast ss ≡ false → AllRouters ss
+routers-areSteps [] r e = tt
+routers-areSteps (child router i ∷ up) r e = r
+routers-areSteps (child host i ∷ up) r e = let z : _≡_ {A = ℕ} 0 1 = cc in absurd (omega arith)
 
 pub routers-steps : {c : ℕ} → IsAddress c → isHost c ≡ false → AllRouters (steps c)
-routers-steps {c} a h = routers-reading (steps c) (reading-steps c) (sym (isHost-steps a) ∙ h)
+routers-steps {c} a h = routers-areSteps (steps c) (areSteps-steps c) (sym (isHost-steps a) ∙ h)
 
 -- only the last step leads to a host
 pub routers-above : (d : ℕ) (s : Step) (more ss : List Step) → steps d ≡ s ∷ (more ++ ss) → AllRouters ss
-routers-above d s more ss e = routers-tail more ss (rw e at (reading-steps d))
+routers-above d s more ss e = routers-tail more ss (rw e at (areSteps-steps d))
 
 -- the first steps of an address, as an address
 
@@ -64,7 +66,7 @@ module _ {d : ℕ} (b : IsAddress d) (more ss : List Step) (e : steps d ≡ more
   address-tail = address-addressOf ss short-tail
 
   pub steps-tail : steps (addressOf ss) ≡ ss
-  steps-tail = steps-addressOf ss short-tail (reading-tail more ss (rw e at (reading-steps d)))
+  steps-tail = steps-addressOf ss short-tail (areSteps-tail more ss (rw e at (areSteps-steps d)))
 
 pub number-child : {x : ℕ} → IsAddress x → (s : Step) → number (bits x ++ stepBits s) ≡ addressOf (s ∷ steps x)
 unfolding addressOf spelled
@@ -77,12 +79,12 @@ module _ {c d : ℕ} (a : IsAddress c) (b : IsAddress d) where
   steps-injective e = sym (addressOf-steps a) ∙ ap addressOf e ∙ addressOf-steps b
 
   -- no step follows one that leads to a host
-  pub host-onway : isHost c ≡ true → OnWay (steps c) (steps d) → c ≡ d
-  host-onway h (more, e) = go more e
+  pub host-ancestorOrSelf : isHost c ≡ true → AncestorOrSelf (steps c) (steps d) → c ≡ d
+  host-ancestorOrSelf h (more, e) = go more e
     where
       go : (more : List Step) → steps d ≡ more ++ steps c → c ≡ d
       go [] e = steps-injective (sym e)
       go (s ∷ more) e =
-          let last = hostLast-routers (steps c) (routers-tail more (steps c) (rw e at (reading-steps d))) in
+          let last = hostLast-routers (steps c) (routers-tail more (steps c) (rw e at (areSteps-steps d))) in
           let z : _≡_ {A = ℕ} 0 1 = cc (isHost-steps a) in
           absurd (omega arith)

@@ -17,9 +17,10 @@ use Rattle.address.specs.Choice.{if_then_else_}
 use Rattle.address.specs.Bits.{Bit, O, I, lastBit, bitsIn, bits, digit, longest, root}
 use Rattle.address.specs.Steps.{Kind, router, host, Step, child, lastStep, cut, stepsOf, steps, lastOf, stepBits, spelled, addressOf}
 use Rattle.address.specs.Address.{bitLength, endsInOne, isHost, depth, above, parent}
-use Rattle.address.specs.Reading.{IsAddress, AllRouters, IsReading}
+use Rattle.address.specs.Numbers.{IsAddress}
+use Rattle.address.specs.Cuts.{AllRouters, AreSteps}
 use Rattle.address.proofs.Numbers.{digit-lastBit, digit-lt, bitsIn-pos, bits-string, lt-bitLength}
-use Rattle.address.proofs.Steps.{reading-steps, spelled-steps, addressOf-steps, length-spelled, length-lt-spelled, reading-routers, address-addressOf, addressOf-root, addressOf-child}
+use Rattle.address.proofs.Steps.{areSteps-steps, spelled-steps, addressOf-steps, length-spelled, length-lt-spelled, areSteps-routers, address-addressOf, addressOf-root, addressOf-child}
 
 le-one : (P : ℕ → Type 0) → P 0 → P 1 → {n : ℕ} → n ≤ 1 → P n
 le-one P p q {n = zero} h = p
@@ -93,11 +94,11 @@ ones-child kind i up =
     (ones-cat 1 (addressOf up * 2 ^ i + (2 ^ i - 1)) (digit (lastOf kind)) (digit-lt (lastOf kind))
     ∙ rw (ones-cat i (addressOf up) (2 ^ i - 1) (ones-lt i), ones-ones i, ones-digit))
 
-depth-reading : (ss : List Step) → IsReading ss
+depth-areSteps : (ss : List Step) → AreSteps ss
     → length ss + ones (addressOf ss) ≡ length (spelled ss) + (if hostLast ss then 1 else 0)
-depth-reading [] r = rw addressOf-root (unfold ones spelled in refl)
-depth-reading (child kind i ∷ up) r =
-    let below = rw (hostLast-routers up r) at (depth-reading up (reading-routers up r)) in
+depth-areSteps [] r = rw addressOf-root (unfold ones spelled in refl)
+depth-areSteps (child kind i ∷ up) r =
+    let below = rw (hostLast-routers up r) at (depth-areSteps up (areSteps-routers up r)) in
     rw (length-spelled, ones-child, hostLast-digit kind i up) (omega arith)
 
 pub depth-ones : {n : ℕ} → n < 2 ^ longest → depth n + ones n ≡ bitLength n + (if isHost n then 1 else 0)
@@ -105,7 +106,7 @@ unfolding depth bitLength
 depth-ones {n = zero} h = unfold depth steps stepsOf bitLength isHost endsInOne bits bitsIn ones in refl
 depth-ones {n = suc n} h =
     let a : IsAddress (suc n) = record { some = omega arith; fits = h } in
-    rw (addressOf-steps a, spelled-steps a, ← isHost-steps a) at (depth-reading (steps (suc n)) (reading-steps (suc n)))
+    rw (addressOf-steps a, spelled-steps a, ← isHost-steps a) at (depth-areSteps (steps (suc n)) (areSteps-steps (suc n)))
 
 -- parents
 
@@ -159,9 +160,9 @@ pub parent-kept : {n : ℕ} → 1 < n → n < 2 ^ longest → parent n ≡ orRoo
 unfolding parent above
 parent-kept {n} l h =
     let a : IsAddress n = record { some = omega arith; fits = h } in
-    go (steps n) (reading-steps n) (addressOf-steps a) (rw (spelled-steps a) (bits-string a .short))
+    go (steps n) (areSteps-steps n) (addressOf-steps a) (rw (spelled-steps a) (bits-string a .short))
   where
-    go : (ss : List Step) → IsReading ss → addressOf ss ≡ n → length (spelled ss) ≤ longest → above ss ≡ orRoot (kept (n / 2))
+    go : (ss : List Step) → AreSteps ss → addressOf ss ≡ n → length (spelled ss) ≤ longest → above ss ≡ orRoot (kept (n / 2))
     go [] r e short = absurd (omega (arith, addressOf-root))
     go (child kind i ∷ up) r e short =
         let half : n / 2 ≡ addressOf up * 2 ^ i + (2 ^ i - 1) = omega (arith, addressOf-child kind i up, digit-lt (lastOf kind)) in

@@ -14,7 +14,7 @@ use lib.Count.{leadingZeros}
 use Rattle.address.specs.Choice.{if_then_else_}
 use Rattle.address.specs.Bits.{Bit, O, I, lastBit, bitsIn, bits, digit, numberFrom, number, longest, root}
 use Rattle.address.specs.Address.{bitLength}
-use Rattle.address.specs.Reading.{IsAddressString, IsAddress, OneToOne}
+use Rattle.address.specs.Numbers.{IsAddressString, IsAddress, OneToOne}
 
 -- the last digit, and what is left of a bound without it
 

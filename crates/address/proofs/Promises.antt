@@ -6,18 +6,18 @@ use native.Mathlib.Omega.{arith}
 use lib.Dec.{eqb}
 use borrow.Author.Tests.{eqb-false}
 use Rattle.address.specs.Choice.{if_then_else_}
-use Rattle.address.specs.Address.{Made, valid, refused, Answer, refusedAnswer, validAnswer, answer, made}
+use Rattle.address.specs.Address.{Made, Valid, Refused, AddressAnswer, refusedAddress, validAddress, madeAnswer, made}
 
-pub made-refused : (k : ℕ) {n : ℕ} → made k ≡ refusedAnswer n → n ≡ 0 → ⊥
+pub made-refused : (k : ℕ) {n : ℕ} → made k ≡ refusedAddress n → n ≡ 0 → ⊥
 unfolding made
 made-refused k {n} e z = go (eqb k 0) refl e
   where
-    go : (t : Bool) → eqb k 0 ≡ t → (if t then refusedAnswer 9 else validAnswer k) ≡ refusedAnswer n → ⊥
-    go true q f = omega (arith, ap (λ (x : Answer). x .refusal) f)
-    go false q f = eqb-false k 0 q (ap (λ (x : Answer). x .address) f)
+    go : (t : Bool) → eqb k 0 ≡ t → (if t then refusedAddress 9 else validAddress k) ≡ refusedAddress n → ⊥
+    go true q f = omega (arith, ap (λ (x : AddressAnswer). x .refusal) f)
+    go false q f = eqb-false k 0 q (ap (λ (x : AddressAnswer). x .address) f)
 
-pub one-made : (k : ℕ) (r s : Made) → answer r ≡ made k → answer s ≡ made k → r ≡ s
-one-made k (valid a) (valid b) e f = ap (λ (x : Answer). valid (record { number = x .address })) (e ∙ sym f)
-one-made k (refused m) (refused n) e f = ap (λ (x : Answer). refused (x .refusal)) (e ∙ sym f)
-one-made k (valid a) (refused n) e f = absurd (made-refused k (sym f) (ap (λ (x : Answer). x .refusal) (f ∙ sym e)))
-one-made k (refused m) (valid b) e f = absurd (made-refused k (sym e) (ap (λ (x : Answer). x .refusal) (e ∙ sym f)))
+pub one-made : (k : ℕ) (r s : Made) → madeAnswer r ≡ made k → madeAnswer s ≡ made k → r ≡ s
+one-made k (Valid a) (Valid b) e f = ap (λ (x : AddressAnswer). Valid (record { number = x .address })) (e ∙ sym f)
+one-made k (Refused m) (Refused n) e f = ap (λ (x : AddressAnswer). Refused (x .refusal)) (e ∙ sym f)
+one-made k (Valid a) (Refused n) e f = absurd (made-refused k (sym f) (ap (λ (x : AddressAnswer). x .refusal) (f ∙ sym e)))
+one-made k (Refused m) (Valid b) e f = absurd (made-refused k (sym e) (ap (λ (x : AddressAnswer). x .refusal) (e ∙ sym f)))

@@ -9,7 +9,9 @@ use lib.ListN.{length, replicate, length-append, length-replicate}
 use Rattle.address.specs.Bits.{Bit, O, I, bits, bitsIn, lastBit, digit, numberFrom, number, longest, root}
 use Rattle.address.specs.Steps.{Kind, router, host, Step, child, lastStep, cut, stepsOf, steps, lastOf, stepBits, spelled, addressOf}
 use Rattle.address.specs.Address.{bitLength, depth, above, parent}
-use Rattle.address.specs.Reading.{IsAddressString, IsAddress, AllRouters, IsReading, ExactlyOneReading, DepthRange}
+use Rattle.address.specs.Numbers.{IsAddressString, IsAddress}
+use Rattle.address.specs.Cuts.{AllRouters, AreSteps, ExactlyOneCut}
+use Rattle.address.specs.Depths.{DepthRange}
 use Rattle.address.proofs.Numbers.{bits-number, number-bits, number-address, bits-string, bitLength-le, numberFrom-append, numberFrom-ones}
 
 -- spelling what was cut
@@ -25,25 +27,25 @@ spelled-cut (suc k) done [] = rw (replicate-snoc k I [])
 spelled-cut k done (O ∷ bs) = spelled-cut 0 (child router k ∷ done) bs ∙ simp append-assoc
 spelled-cut k done (I ∷ bs) = spelled-cut (suc k) done bs ∙ rw (replicate-snoc k I bs)
 
-pub reading-routers : (ss : List Step) → AllRouters ss → IsReading ss
-reading-routers [] r = r
-reading-routers (child router i ∷ up) r = r
-reading-routers (child host i ∷ up) r = absurd r
+pub areSteps-routers : (ss : List Step) → AllRouters ss → AreSteps ss
+areSteps-routers [] r = r
+areSteps-routers (child router i ∷ up) r = r
+areSteps-routers (child host i ∷ up) r = absurd r
 
-reading-cut : (k : ℕ) (done : List Step) (bs : List Bit) → AllRouters done → IsReading (cut k done bs)
+areSteps-cut : (k : ℕ) (done : List Step) (bs : List Bit) → AllRouters done → AreSteps (cut k done bs)
 unfolding cut lastStep
-reading-cut zero done [] r = reading-routers done r
-reading-cut (suc k) done [] r = r
-reading-cut k done (O ∷ bs) r = reading-cut 0 (child router k ∷ done) bs r
-reading-cut k done (I ∷ bs) r = reading-cut (suc k) done bs r
+areSteps-cut zero done [] r = areSteps-routers done r
+areSteps-cut (suc k) done [] r = r
+areSteps-cut k done (O ∷ bs) r = areSteps-cut 0 (child router k ∷ done) bs r
+areSteps-cut k done (I ∷ bs) r = areSteps-cut (suc k) done bs r
 
-pub reading-steps : (n : ℕ) → IsReading (steps n)
+pub areSteps-steps : (n : ℕ) → AreSteps (steps n)
 unfolding steps stepsOf
-reading-steps n = go (bits n)
+areSteps-steps n = go (bits n)
   where
-    go : (bs : List Bit) → IsReading (stepsOf bs)
+    go : (bs : List Bit) → AreSteps (stepsOf bs)
     go [] = tt
-    go (b ∷ bs) = reading-cut 0 [] bs tt
+    go (b ∷ bs) = areSteps-cut 0 [] bs tt
 
 pub spelled-steps : {n : ℕ} → IsAddress n → spelled (steps n) ≡ bits n
 unfolding steps stepsOf spelled
@@ -72,7 +74,7 @@ stepsOf-routers (child router i ∷ up) bs r =
     simp append-assoc (stepsOf-routers up (replicate i I ++ (O ∷ bs)) r ∙ cut-ones 0 i up (O ∷ bs) ∙ rw zero-add)
 stepsOf-routers (child host i ∷ up) bs r = absurd r
 
-pub stepsOf-spelled : (ss : List Step) → IsReading ss → stepsOf (spelled ss) ≡ ss
+pub stepsOf-spelled : (ss : List Step) → AreSteps ss → stepsOf (spelled ss) ≡ ss
 unfolding stepsOf cut spelled lastStep
 stepsOf-spelled [] r = refl
 stepsOf-spelled (child kind i ∷ up) r = stepsOf-routers up (stepBits (child kind i)) r ∙ cut-step kind i up
@@ -94,11 +96,11 @@ module _ (ss : List Step) (short : length (spelled ss) ≤ longest) where
   unfolding addressOf
   address-addressOf = number-address spelled-string
 
-  pub steps-addressOf : IsReading ss → steps (addressOf ss) ≡ ss
+  pub steps-addressOf : AreSteps ss → steps (addressOf ss) ≡ ss
   unfolding steps
   steps-addressOf r = rw bits-addressOf (stepsOf-spelled ss r)
 
-  pub depth-addressOf : IsReading ss → depth (addressOf ss) ≡ length ss
+  pub depth-addressOf : AreSteps ss → depth (addressOf ss) ≡ length ss
   unfolding depth
   depth-addressOf r = rw (steps-addressOf r)
 
@@ -111,10 +113,10 @@ pub parent-addressOf : (s : Step) (up : List Step) → length (spelled (s ∷ up
 unfolding parent above
 parent-addressOf s up short r = rw (steps-addressOf (s ∷ up) short r)
 
-pub exactly-one-reading : ExactlyOneReading
+pub exactly-one-cut : ExactlyOneCut
 unfolding steps
-exactly-one-reading = record {
-  has = λ n a. (reading-steps n, spelled-steps a);
+exactly-one-cut = record {
+  has = λ n a. (areSteps-steps n, spelled-steps a);
   only = λ n ss a r e. rw (← e) (sym (stepsOf-spelled ss r));
   back = λ ss r short. (address-addressOf ss short, steps-addressOf ss short r);
 }

@@ -10,7 +10,7 @@ use Rattle.address.specs.Bits.{Bit, O, I, bits}
 use Rattle.address.specs.Steps.{Step, child, steps, addressOf}
 pub use Rattle.address.specs.declared.Address.{Address}
 pub use Rattle.address.specs.declared.Made.{Made}
-pub use Rattle.address.specs.declared.Made.the-variants.{Valid as valid, Refused as refused}
+pub use Rattle.address.specs.declared.Made.the-variants.{Valid, Refused}
 
 -- "Its length is 64 less the count of leading zeros": the bit string's length
 unfoldable pub bitLength : ℕ → ℕ
@@ -41,22 +41,22 @@ unfoldable pub parent : ℕ → ℕ
 parent n = above (steps n)
 
 -- what an answer says: its number, 0 where it is done, and its address, 0 where it is refused
-pub record Answer : Type 0 where
+pub record AddressAnswer : Type 0 where
   pub refusal : ℕ
   pub address : ℕ
 
-abbrev pub validAnswer : ℕ → Answer
-validAnswer a = record { refusal = 0; address = a }
+abbrev pub validAddress : ℕ → AddressAnswer
+validAddress a = record { refusal = 0; address = a }
 
 -- "With any refusal the address .. and every other number returned beside its own are 0"
-abbrev pub refusedAnswer : ℕ → Answer
-refusedAnswer n = record { refusal = n; address = 0 }
+abbrev pub refusedAddress : ℕ → AddressAnswer
+refusedAddress n = record { refusal = n; address = 0 }
 
 -- the document's number and values for each case of the answer
-abbrev pub answer : Made → Answer
-answer (valid a) = validAnswer (a .number)
-answer (refused n) = refusedAnswer n
+abbrev pub madeAnswer : Made → AddressAnswer
+madeAnswer (Valid a) = validAddress (a .number)
+madeAnswer (Refused n) = refusedAddress n
 
 -- refusal 9: "an address is zero"
-unfoldable pub made : ℕ → Answer
-made n = if eqb n 0 then refusedAnswer 9 else validAnswer n
+unfoldable pub made : ℕ → AddressAnswer
+made n = if eqb n 0 then refusedAddress 9 else validAddress n

@@ -3,4 +3,7 @@ pub mod Choice
 pub mod Bits
 pub mod Steps
 pub mod Address
-pub mod Reading
+pub mod Numbers
+pub mod Cuts
+pub mod Ancestors
+pub mod Depths

@@ -4,7 +4,7 @@
 // it stands in an answer beside a refusal, and each function says what it answers for it.
 ghost use mathlib.Core.Path.{_≡_};
 ghost use Rattle.address.specs.Bits.{longest, root};
-ghost use Rattle.address.specs.Address.{answer, made, bitLength, isHost, depth, parent};
+ghost use Rattle.address.specs.Address.{madeAnswer, made, bitLength, isHost, depth, parent};
 
 // Refusal 9: "an address is zero".
 pub const ZERO_ADDRESS: u8 = 9;
@@ -40,7 +40,7 @@ impl Address {
 
     // The address that a number holds. Zero is refused.
     pub fn new(number: u64) -> Made
-        ensures { λ r. ⌜ answer r ≡ made number ⌝ }
+        ensures { λ r. ⌜ madeAnswer r ≡ made number ⌝ }
     {
         if number == 0 {
             return Made::Refused(ZERO_ADDRESS);

@@ -6,11 +6,11 @@ use lib.Dec.{leb}
 use Rattle.address.specs.Choice.{if_then_else_}
 use Rattle.node.specs.declared.Node.{Node}
 use Rattle.forward.specs.Forward.{nextHop}
-use Rattle.batch.specs.Hops.{HopAnswer, hopAnswer}
+use Rattle.batch.specs.Exported.{PasaHop, pasaHop}
 
 -- the answer for one of the destinations
-unfoldable pub hopFor : Node → ℕ → HopAnswer
-hopFor n d = hopAnswer (nextHop n d)
+unfoldable pub hopFor : Node → ℕ → PasaHop
+hopFor n d = pasaHop (nextHop n d)
 
 -- one number of the answer
 abbrev pub nodeFor : Node → ℕ → ℕ
@@ -27,14 +27,14 @@ unfoldable pub front : ℕ → List ℕ → List ℕ → List ℕ
 front k numbers words = take k numbers ++ drop k words
 
 -- What the call for many destinations comes to: its answer, and what the slices lent hold at the end.
-pub record Effect : Type 0 where
+pub record BatchEffect : Type 0 where
   pub count : ℕ
   pub nodes : List ℕ
   pub actions : List ℕ
   pub refusals : List ℕ
 
 -- the first k destinations are answered
-unfoldable pub firstHops : ℕ → Node → List ℕ → List ℕ → List ℕ → List ℕ → Effect
+unfoldable pub firstHops : ℕ → Node → List ℕ → List ℕ → List ℕ → List ℕ → BatchEffect
 firstHops k n ds nodes actions refusals =
     record {
       count = k;
@@ -50,5 +50,5 @@ least a b = if leb a b then a else b
 unfoldable pub shortest : List ℕ → List ℕ → List ℕ → List ℕ → ℕ
 shortest ds nodes actions refusals = least (least (length ds) (length nodes)) (least (length actions) (length refusals))
 
-unfoldable pub hopsOf : Node → List ℕ → List ℕ → List ℕ → List ℕ → Effect
-hopsOf n ds nodes actions refusals = firstHops (shortest ds nodes actions refusals) n ds nodes actions refusals
+unfoldable pub nextHops : Node → List ℕ → List ℕ → List ℕ → List ℕ → BatchEffect
+nextHops n ds nodes actions refusals = firstHops (shortest ds nodes actions refusals) n ds nodes actions refusals

@@ -1,3 +1,3 @@
 -- Next hops as plain numbers, one and many, in definitions alone.
-pub mod Hops
+pub mod Exported
 pub mod Batch

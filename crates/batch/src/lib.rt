@@ -15,12 +15,12 @@ ghost use lib.ListN.{drop};
 ghost use Rattle.address.specs.Choice.{if_then_else_};
 ghost use Rattle.address.specs.Bits.{bits};
 ghost use Rattle.address.specs.Address.{bitLength, isHost};
-ghost use Rattle.address.specs.Reading.{IsAddress};
+ghost use Rattle.address.specs.Numbers.{IsAddress};
 ghost use Rattle.search.specs.Search.{lookedAt, isPrefix};
 ghost use Rattle.address.specs.declared.Kind.the-variants.{Router, Host};
-ghost use Rattle.forward.specs.Forward.{answer, toward, nextHop};
-ghost use Rattle.batch.specs.Hops.{hopAnswer};
-ghost use Rattle.batch.specs.Batch.{least, hopsOf};
+ghost use Rattle.forward.specs.Forward.{hopAnswer, toward, nextHop};
+ghost use Rattle.batch.specs.Exported.{pasaHop};
+ghost use Rattle.batch.specs.Batch.{least, nextHops};
 
 // What becomes of the packet, in an answer.
 pub const STOPPED: u8 = 0;
@@ -34,32 +34,32 @@ pub const TO_CHILD: u8 = 3;
 // What a next hop answers: the node passed to, on delivery the node itself, 0 in a refusal; the refusal's number, 0 where there is none;
 // and what becomes of the packet.
 #[repr(C)]
-pub struct HopAnswer {
+pub struct PasaHop {
     pub node: u64,
     pub refusal: u8,
     pub action: u8,
 }
 
-pub fn hop_answer(hop: Hop) -> HopAnswer
-    ensures { λ r. ⌜ r ≡ hopAnswer (answer hop) ⌝ }
+pub fn pasa_hop(hop: Hop) -> PasaHop
+    ensures { λ r. ⌜ r ≡ pasaHop (hopAnswer hop) ⌝ }
 {
     match hop {
-        Hop::Deliver(node) => HopAnswer {
+        Hop::Deliver(node) => PasaHop {
             node: node.number,
             refusal: 0,
             action: DELIVERED,
         },
-        Hop::Parent(node) => HopAnswer {
+        Hop::Parent(node) => PasaHop {
             node: node.number,
             refusal: 0,
             action: TO_PARENT,
         },
-        Hop::Child(node) => HopAnswer {
+        Hop::Child(node) => PasaHop {
             node: node.number,
             refusal: 0,
             action: TO_CHILD,
         },
-        Hop::Refused(number) => HopAnswer {
+        Hop::Refused(number) => PasaHop {
             node: 0,
             refusal: number,
             action: STOPPED,
@@ -78,26 +78,26 @@ fn kind_of(child: Address) -> Kind
 }
 
 // Rule 4: the next child on the way to an address of which the node's is a proper prefix.
-fn toward(node: Node, destination: Address) -> HopAnswer
+fn toward(node: Node, destination: Address) -> PasaHop
     requires { ⌜ IsAddress (node .address .number) ⌝ }
     requires { ⌜ IsAddress (destination .number) ⌝ }
     requires { ⌜ isHost (node .address .number) ≡ false ⌝ }
     requires { ⌜ isPrefix (bits (node .address .number)) (bits (destination .number)) ≡ true ⌝ }
     requires { ⌜ (destination .number ≡ node .address .number → ⊥) ⌝ }
-    ensures { λ r. ⌜ r ≡ hopAnswer (toward node (lookedAt (drop (bitLength (node .address .number)) (bits (destination .number))))) ⌝ }
+    ensures { λ r. ⌜ r ≡ pasaHop (toward node (lookedAt (drop (bitLength (node .address .number)) (bits (destination .number))))) ⌝ }
 {
     let length = node.address.bit_length();
     let end = search::child_end(destination, length);
     let child = Address::of(destination.number >> (destination.bit_length() - end));
     let index = end - length - 1;
     if index < node.count(kind_of(child)) as u32 {
-        return HopAnswer {
+        return PasaHop {
             node: child.number,
             refusal: 0,
             action: TO_CHILD,
         };
     }
-    HopAnswer {
+    PasaHop {
         node: 0,
         refusal: forward::CHILD_NOT_GIVEN,
         action: STOPPED,
@@ -105,18 +105,18 @@ fn toward(node: Node, destination: Address) -> HopAnswer
 }
 
 // The next hop for a packet to the destination, at the node with this record.
-fn hop(node: Node, destination: Address) -> HopAnswer
-    ensures { λ r. ⌜ r ≡ hopAnswer (nextHop node (destination .number)) ⌝ }
+fn hop(node: Node, destination: Address) -> PasaHop
+    ensures { λ r. ⌜ r ≡ pasaHop (nextHop node (destination .number)) ⌝ }
 {
     if !node.is_good() {
-        return HopAnswer {
+        return PasaHop {
             node: 0,
             refusal: node::BAD_RECORD,
             action: STOPPED,
         };
     }
     if destination.number == 0 {
-        return HopAnswer {
+        return PasaHop {
             node: 0,
             refusal: address::ZERO_ADDRESS,
             action: STOPPED,
@@ -124,21 +124,21 @@ fn hop(node: Node, destination: Address) -> HopAnswer
     }
     let here = node.address;
     if destination.number == here.number {
-        return HopAnswer {
+        return PasaHop {
             node: here.number,
             refusal: 0,
             action: DELIVERED,
         };
     }
     if here.is_host() {
-        return HopAnswer {
+        return PasaHop {
             node: here.parent().number,
             refusal: 0,
             action: TO_PARENT,
         };
     }
-    if search::prefix(destination, here.bit_length()).number != here.number {
-        return HopAnswer {
+    if search::first_bits(destination, here.bit_length()).number != here.number {
+        return PasaHop {
             node: here.parent().number,
             refusal: 0,
             action: TO_PARENT,
@@ -166,7 +166,7 @@ pub fn next_hops(
     refusals: &mut [u8],
 ) -> usize
     ensures { λ r. ⌜ record { count = r; nodes = now (nodes .exit); actions = now (actions .exit); refusals = now (refusals .exit) }
-        ≡ hopsOf node (now (destinations .entry)) (now (nodes .entry)) (now (actions .entry)) (now (refusals .entry)) ⌝ }
+        ≡ nextHops node (now (destinations .entry)) (now (nodes .entry)) (now (actions .entry)) (now (refusals .entry)) ⌝ }
 {
     let count = least(
         least(destinations.len(), nodes.len()),

@@ -11,13 +11,14 @@ use Rattle.address.specs.declared.Kind.{Kind}
 use Rattle.address.specs.Bits.{bits, number}
 use Rattle.address.specs.Steps.{Step, child, steps, addressOf, stepBits}
 use Rattle.address.specs.Address.{bitLength, isHost, parent}
-use Rattle.address.specs.Reading.{IsAddress, OnWay}
+use Rattle.address.specs.Numbers.{IsAddress}
+use Rattle.address.specs.Ancestors.{AncestorOrSelf}
 use Rattle.search.specs.Search.{lookedAt, isPrefix}
-use Rattle.address.proofs.Ancestors.{number-child, host-onway, steps-injective}
-use Rattle.search.proofs.Prefixes.{lookedAt-step, kindLooked-stepBits, indexLooked-stepBits, onway-prefix, prefix-onway}
+use Rattle.address.proofs.Ancestors.{number-child, host-ancestorOrSelf, steps-injective}
+use Rattle.search.proofs.Prefixes.{lookedAt-step, kindLooked-stepBits, indexLooked-stepBits, ancestorOrSelf-prefix, isPrefix-ancestorOrSelf}
 use Rattle.node.specs.Node.{addressIn, count, isGood}
 use Rattle.node.specs.declared.Node.{Node}
-use Rattle.forward.specs.Forward.{Answer, delivered, upTo, downTo, refused, toward, nextHop}
+use Rattle.forward.specs.Forward.{HopAnswer, deliverAt, upTo, downTo, refusedHop, toward, nextHop}
 use Rattle.forward.proofs.Rules.{nextHop-same, nextHop-host, nextHop-elsewhere, nextHop-below, toward-given, toward-absent}
 
 -- whoever is on the way to another address has a next step on it
@@ -25,7 +26,7 @@ last : (s : Step) (dropped : List Step) → (t : Step) × (more : List Step) × 
 last s [] = (s, [], refl)
 last s (t ∷ dropped) = let (u, more, e) = last t dropped in (u, s ∷ more, ap (λ (l : List Step). s ∷ l) e)
 
-pub next-step : {c d : ℕ} → IsAddress c → IsAddress d → OnWay (steps c) (steps d) → (d ≡ c → ⊥)
+pub next-step : {c d : ℕ} → IsAddress c → IsAddress d → AncestorOrSelf (steps c) (steps d) → (d ≡ c → ⊥)
     → (s : Step) × (more : List Step) × (steps d ≡ more ++ (s ∷ steps c))
 next-step {c} {d} a b ([], e) other = absurd (other (steps-injective b a e))
 next-step {c} {d} a b (s ∷ dropped, e) other =
@@ -40,11 +41,11 @@ module _ (n : Node) (d : ℕ) (g : isGood n ≡ true) (a : IsAddress (addressIn 
   not-zero : d ≡ 0 → ⊥
   not-zero z = omega (arith, b .some)
 
-  pub nextHop-deliver : d ≡ addressIn n → nextHop n d ≡ delivered (addressIn n)
+  pub nextHop-deliver : d ≡ addressIn n → nextHop n d ≡ deliverAt (addressIn n)
   nextHop-deliver e = nextHop-same n d g not-zero e
 
   -- up
-  pub nextHop-up : (OnWay (steps (addressIn n)) (steps d) → ⊥) → nextHop n d ≡ upTo (parent (addressIn n))
+  pub nextHop-up : (AncestorOrSelf (steps (addressIn n)) (steps d) → ⊥) → nextHop n d ≡ upTo (parent (addressIn n))
   nextHop-up off = go (isHost (addressIn n)) refl (isPrefix (bits (addressIn n)) (bits d)) refl
     where
       other : d ≡ addressIn n → ⊥
@@ -53,22 +54,22 @@ module _ (n : Node) (d : ℕ) (g : isGood n ≡ true) (a : IsAddress (addressIn 
       go : (h : Bool) → isHost (addressIn n) ≡ h → (p : Bool) → isPrefix (bits (addressIn n)) (bits d) ≡ p → nextHop n d ≡ upTo (parent (addressIn n))
       go true h p f = nextHop-host n d g not-zero other h
       go false h false f = nextHop-elsewhere n d g not-zero other h f
-      go false h true f = absurd (off (prefix-onway a b h f))
+      go false h true f = absurd (off (isPrefix-ancestorOrSelf a b h f))
 
   module _ (more : List Step) (kind : Kind) (i : ℕ) (e : steps d ≡ more ++ (child kind i ∷ steps (addressIn n))) where
-    on-way : OnWay (steps (addressIn n)) (steps d)
-    on-way = (more ++ (child kind i ∷ []), e ∙ sym (append-snoc more (child kind i) (steps (addressIn n))))
+    below-node : AncestorOrSelf (steps (addressIn n)) (steps d)
+    below-node = (more ++ (child kind i ∷ []), e ∙ sym (append-snoc more (child kind i) (steps (addressIn n))))
 
     no-host : isHost (addressIn n) ≡ false
     no-host = go (isHost (addressIn n)) refl
       where
         go : (h : Bool) → isHost (addressIn n) ≡ h → h ≡ false
-        go true h = absurd (longer more (child kind i) e (sym (host-onway a b h on-way)))
+        go true h = absurd (longer more (child kind i) e (sym (host-ancestorOrSelf a b h below-node)))
         go false h = refl
 
     nextHop-step : nextHop n d ≡ toward n (stepBits (child kind i))
     nextHop-step =
-        nextHop-below n d g not-zero (longer more (child kind i) e) no-host (onway-prefix a b on-way)
+        nextHop-below n d g not-zero (longer more (child kind i) e) no-host (ancestorOrSelf-prefix a b below-node)
         ∙ ap (toward n) (lookedAt-step a b more (child kind i) e)
 
     -- toward a child
@@ -78,5 +79,5 @@ module _ (n : Node) (d : ℕ) (g : isGood n ≡ true) (a : IsAddress (addressIn 
         ∙ toward-given n (stepBits (child kind i)) (rw (kindLooked-stepBits kind i, indexLooked-stepBits kind i) h)
         ∙ ap downTo (number-child a (child kind i))
 
-    pub nextHop-stop : count kind n ≤ i → nextHop n d ≡ refused 7
+    pub nextHop-stop : count kind n ≤ i → nextHop n d ≡ refusedHop 7
     nextHop-stop h = nextHop-step ∙ toward-absent n (stepBits (child kind i)) (rw (kindLooked-stepBits kind i, indexLooked-stepBits kind i) h)

@@ -13,11 +13,11 @@ use Rattle.address.specs.Choice.{if_then_else_}
 use Rattle.address.specs.Bits.{Bit, O, I, bits, number, digit}
 use Rattle.address.specs.Steps.{Step, child, steps, addressOf, stepBits, lastOf}
 use Rattle.address.specs.Address.{bitLength, isHost}
-use Rattle.address.specs.Reading.{IsAddress}
-use Rattle.search.specs.Search.{lookedAt, childEnd, prefix, isPrefix, kindLooked}
+use Rattle.address.specs.Numbers.{IsAddress}
+use Rattle.search.specs.Search.{lookedAt, childEnd, firstBits, isPrefix, kindLooked}
 use Rattle.address.proofs.Steps.{addressOf-child}
 use Rattle.address.proofs.Ancestors.{number-child}
-use Rattle.search.proofs.Prefixes.{lookedAt-step, prefix-childEnd, kindLooked-stepBits, prefix-onway}
+use Rattle.search.proofs.Prefixes.{lookedAt-step, firstBits-childEnd, kindLooked-stepBits, isPrefix-ancestorOrSelf}
 use Rattle.forward.proofs.Hops.{next-step}
 
 -- the last bit of a child's address tells its kind
@@ -37,7 +37,7 @@ module _ {c d : ℕ} (a : IsAddress c) (b : IsAddress d) (h : isHost c ≡ false
   looked = lookedAt (drop (bitLength c) (bits d))
 
   step : (s : Step) × (more : List Step) × (steps d ≡ more ++ (s ∷ steps c))
-  step = next-step a b (prefix-onway a b h p) other
+  step = next-step a b (isPrefix-ancestorOrSelf a b h p) other
 
   looked-step : looked ≡ stepBits (step .0)
   looked-step = lookedAt-step a b (step .1) (step .0) (step .2)
@@ -49,14 +49,14 @@ module _ {c d : ℕ} (a : IsAddress c) (b : IsAddress d) (h : isHost c ≡ false
   unfolding childEnd
   childEnd-looked = refl
 
-  prefix-step : prefix (childEnd (bitLength c) (bits d)) d ≡ addressOf (step .0 ∷ steps c)
-  prefix-step = prefix-childEnd a b (step .1) (step .0) (step .2)
+  firstBits-step : firstBits (childEnd (bitLength c) (bits d)) d ≡ addressOf (step .0 ∷ steps c)
+  firstBits-step = firstBits-childEnd a b (step .1) (step .0) (step .2)
 
-  pub prefix-looked : prefix (childEnd (bitLength c) (bits d)) d ≡ number (bits c ++ looked)
-  prefix-looked = prefix-step ∙ sym (number-child a (step .0)) ∙ ap (λ (bs : List Bit). number (bits c ++ bs)) (sym looked-step)
+  pub firstBits-looked : firstBits (childEnd (bitLength c) (bits d)) d ≡ number (bits c ++ looked)
+  firstBits-looked = firstBits-step ∙ sym (number-child a (step .0)) ∙ ap (λ (bs : List Bit). number (bits c ++ bs)) (sym looked-step)
 
-  pub kind-looked : (if eqb (prefix (childEnd (bitLength c) (bits d)) d % 2) 0 then Router else Host) ≡ kindLooked looked
-  kind-looked = rw (prefix-step, looked-step) (go (step .0))
+  pub kind-looked : (if eqb (firstBits (childEnd (bitLength c) (bits d)) d % 2) 0 then Router else Host) ≡ kindLooked looked
+  kind-looked = rw (firstBits-step, looked-step) (go (step .0))
     where
       go : (s : Step) → (if eqb (addressOf (s ∷ steps c) % 2) 0 then Router else Host) ≡ kindLooked (stepBits s)
       go (child kind i) = kind-child kind i (steps c) ∙ sym (kindLooked-stepBits kind i)

@@ -10,14 +10,14 @@ use Rattle.address.specs.Address.{bitLength, isHost, parent}
 use Rattle.search.specs.Search.{lookedAt, isPrefix, kindLooked, indexLooked}
 use Rattle.node.specs.Node.{addressIn, count, isGood}
 use Rattle.node.specs.declared.Node.{Node}
-use Rattle.forward.specs.Forward.{Answer, delivered, upTo, downTo, refused, toward, rules, nextHop}
+use Rattle.forward.specs.Forward.{HopAnswer, deliverAt, upTo, downTo, refusedHop, toward, rules, nextHop}
 
 module _ (n : Node) (d : ℕ) where
-  pub nextHop-bad : isGood n ≡ false → nextHop n d ≡ refused 1
+  pub nextHop-bad : isGood n ≡ false → nextHop n d ≡ refusedHop 1
   unfolding nextHop
   nextHop-bad g = rw g
 
-  pub nextHop-zero : isGood n ≡ true → d ≡ 0 → nextHop n d ≡ refused 9
+  pub nextHop-zero : isGood n ≡ true → d ≡ 0 → nextHop n d ≡ refusedHop 9
   unfolding nextHop
   nextHop-zero g z = rw (g, eq-eqb d 0 z)
 
@@ -26,7 +26,7 @@ module _ (n : Node) (d : ℕ) where
     unfolding nextHop
     nextHop-rules = rw (g, ne-eqb d 0 some)
 
-    pub nextHop-same : d ≡ addressIn n → nextHop n d ≡ delivered (addressIn n)
+    pub nextHop-same : d ≡ addressIn n → nextHop n d ≡ deliverAt (addressIn n)
     unfolding rules
     nextHop-same e = nextHop-rules ∙ rw (eq-eqb d (addressIn n) e)
 
@@ -49,6 +49,6 @@ module _ (n : Node) (looked : List Bit) where
   unfolding toward
   toward-given h = rw (lt-ltb (indexLooked looked) (count (kindLooked looked) n) h)
 
-  pub toward-absent : count (kindLooked looked) n ≤ indexLooked looked → toward n looked ≡ refused 7
+  pub toward-absent : count (kindLooked looked) n ≤ indexLooked looked → toward n looked ≡ refusedHop 7
   unfolding toward
   toward-absent h = rw (le-ltb (indexLooked looked) (count (kindLooked looked) n) h)

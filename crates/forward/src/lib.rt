@@ -10,10 +10,10 @@ ghost use lib.ListN.{drop};
 ghost use Rattle.address.specs.Choice.{if_then_else_};
 ghost use Rattle.address.specs.Bits.{bits};
 ghost use Rattle.address.specs.Address.{bitLength, isHost};
-ghost use Rattle.address.specs.Reading.{IsAddress};
+ghost use Rattle.address.specs.Numbers.{IsAddress};
 ghost use Rattle.search.specs.Search.{lookedAt, isPrefix};
 ghost use Rattle.address.specs.declared.Kind.the-variants.{Router, Host};
-ghost use Rattle.forward.specs.Forward.{answer, toward, nextHop};
+ghost use Rattle.forward.specs.Forward.{hopAnswer, toward, nextHop};
 
 // Refusal 7: "destination below this node, child not given".
 pub const CHILD_NOT_GIVEN: u8 = 7;
@@ -43,11 +43,11 @@ fn toward(node: Node, destination: Address) -> Hop
     requires { ⌜ isHost (node .address .number) ≡ false ⌝ }
     requires { ⌜ isPrefix (bits (node .address .number)) (bits (destination .number)) ≡ true ⌝ }
     requires { ⌜ (destination .number ≡ node .address .number → ⊥) ⌝ }
-    ensures { λ r. ⌜ answer r ≡ toward node (lookedAt (drop (bitLength (node .address .number)) (bits (destination .number)))) ⌝ }
+    ensures { λ r. ⌜ hopAnswer r ≡ toward node (lookedAt (drop (bitLength (node .address .number)) (bits (destination .number)))) ⌝ }
 {
     let length = node.address.bit_length();
     let end = search::child_end(destination, length);
-    let child = search::prefix(destination, end);
+    let child = search::first_bits(destination, end);
     let index = end - length - 1;
     if index < node.count(kind_of(child)) as u32 {
         return Hop::Child(child);
@@ -57,7 +57,7 @@ fn toward(node: Node, destination: Address) -> Hop
 
 // The next hop for a packet to the destination, at the node with this record.
 pub fn next_hop(node: Node, destination: Address) -> Hop
-    ensures { λ r. ⌜ answer r ≡ nextHop node (destination .number) ⌝ }
+    ensures { λ r. ⌜ hopAnswer r ≡ nextHop node (destination .number) ⌝ }
 {
     if !node.is_good() {
         return Hop::Refused(node::BAD_RECORD);
@@ -72,7 +72,7 @@ pub fn next_hop(node: Node, destination: Address) -> Hop
     if here.is_host() {
         return Hop::Parent(here.parent());
     }
-    if search::prefix(destination, here.bit_length()).number != here.number {
+    if search::first_bits(destination, here.bit_length()).number != here.number {
         return Hop::Parent(here.parent());
     }
     toward(node, destination)

@@ -17,11 +17,11 @@ use Rattle.address.specs.Choice.{if_then_else_}
 use Rattle.octets.specs.declared.Written.{Written}
 use Rattle.address.specs.Bits.{bits, bitsIn}
 use Rattle.address.specs.Address.{bitLength}
-use Rattle.address.specs.Reading.{IsAddress}
-use Rattle.octets.specs.Octets.{octets, value, AreOctets, Effect, write, wrote, refuseWriting}
+use Rattle.address.specs.Numbers.{IsAddress}
+use Rattle.octets.specs.Octets.{octets, value, AreOctets, WriteEffect, write, wrote, refuseWriting}
 use Rattle.address.proofs.ChoiceLaws.{if-zero}
 use Rattle.octets.proofs.OctetLaws.{length-octets, value-octets-of-lt, octets-octets, octets-value, value-lt, value-fits, value-lt-of-zeros, value-ge-of-zeros}
-use Rattle.header.specs.Header.{header, place, size, unit, most, start, page, critical, type, sizeAllowed, writing, reading, found, refused, Answer, startFault, inOrder, isCritical, sizeTold, addressFault, zeroFault, addressOctets}
+use Rattle.header.specs.Header.{header, place, size, unit, mostOctets, fixedOctets, pageOctet, criticalPattern, routingType, sizeAllowed, writing, reading, found, refusedHeader, HeaderAnswer, startFault, inOrder, hasCriticalPattern, sizeTold, addressFault, zeroFault, addressOctets}
 use Rattle.header.specs.RoundTrip.{RoundTrip}
 use Rattle.header.specs.WrongWriters.{silentWriter, refusingWriter}
 use Rattle.header.proofs.Size.{size-le, size-ge, size-allowed, size-exact, size-least, sizeAllowed-le, sizeAllowed-ge, fewest-pairs}
@@ -57,16 +57,16 @@ zeroFault-zero s os e h all z = go (ℕ-discrete s unit)
         omega (arith, value-ge-of-zeros unit os all (eqb-false (value (take unit os)) 0 (t .0)), ap (λ (k : ℕ). 256 ^ (k - unit)) e)
 
 module _ {a : ℕ} (n : IsAddress a) (rest : List ℕ) where
-  second : (o : ℕ) → o ≡ critical * 32 + (size a - 1) → (o / 32 ≡ critical) × (o % 32 + 1 ≡ size a)
+  second : (o : ℕ) → o ≡ criticalPattern * 32 + (size a - 1) → (o / 32 ≡ criticalPattern) × (o % 32 + 1 ≡ size a)
   second o e = omega (arith, size-ge n, size-le (n .fits))
 
   header-start : startFault (header a ++ rest) ≡ 0
   unfolding startFault inOrder header
-  header-start = simp (eq-eqb ((critical * 32 + (size a - 1)) / 32) critical (second (critical * 32 + (size a - 1)) refl .0))
+  header-start = simp (eq-eqb ((criticalPattern * 32 + (size a - 1)) / 32) criticalPattern (second (criticalPattern * 32 + (size a - 1)) refl .0))
 
   header-size : sizeTold (header a ++ rest) ≡ size a
   unfolding sizeTold header
-  header-size = second (critical * 32 + (size a - 1)) refl .1
+  header-size = second (criticalPattern * 32 + (size a - 1)) refl .1
 
   header-octets : addressOctets (size a) (header a ++ rest) ≡ octets (size a) a
   unfolding addressOctets header
@@ -75,10 +75,10 @@ module _ {a : ℕ} (n : IsAddress a) (rest : List ℕ) where
   header-fault : addressFault (size a) (header a ++ rest) ≡ 0
   unfolding addressFault place
   header-fault =
-      let long : start + size a ≤ length (header a ++ rest) = omega (arith, length-append (header a) rest, length-header a) in
+      let long : fixedOctets + size a ≤ length (header a ++ rest) = omega (arith, length-append (header a) rest, length-header a) in
       let os = octets (size a) a in
       let number : value os ≡ a = value-octets-of-lt (size a) a (fewest-pairs a n .holds) in
-      simp (size-allowed (n .fits), le-ltb (length (header a ++ rest)) (start + size a) long, header-octets)
+      simp (size-allowed (n .fits), le-ltb (length (header a ++ rest)) (fixedOctets + size a) long, header-octets)
       (zeroFault-none (size a) os (length-octets (size a) a) (size-ge n) (octets-octets (size a) a) (omega (arith, size-least n, number)))
 
   pub reading-header : reading (header a ++ rest) ≡ found a (place a)
@@ -86,9 +86,9 @@ module _ {a : ℕ} (n : IsAddress a) (rest : List ℕ) where
   reading-header =
       let p = header a ++ rest in
       reading-found p header-start (ap (λ (s : ℕ). addressFault s p) header-size ∙ header-fault)
-      ∙ ap (λ (s : ℕ). found (value (addressOctets s p)) (start + s)) header-size
-      ∙ ap (λ (os : List ℕ). found (value os) (start + size a)) header-octets
-      ∙ ap (λ (v : ℕ). found v (start + size a)) (value-octets-of-lt (size a) a (fewest-pairs a n .holds))
+      ∙ ap (λ (s : ℕ). found (value (addressOctets s p)) (fixedOctets + s)) header-size
+      ∙ ap (λ (os : List ℕ). found (value os) (fixedOctets + size a)) header-octets
+      ∙ ap (λ (v : ℕ). found v (fixedOctets + size a)) (value-octets-of-lt (size a) a (fewest-pairs a n .holds))
 
 -- ---- what is read is what would have been written
 
@@ -100,7 +100,7 @@ module _ (p : List ℕ) (all : AreOctets p) (begun : startFault p ≡ 0) (whole 
   unfolding s
   os = addressOctets s p
 
-  right : (sizeAllowed s ≡ true) × (start + s ≤ length p) × (zeroFault s os ≡ 0)
+  right : (sizeAllowed s ≡ true) × (fixedOctets + s ≤ length p) × (zeroFault s os ≡ 0)
   unfolding s os
   right = addressFault-zero s p whole
 
@@ -128,23 +128,23 @@ module _ (p : List ℕ) (all : AreOctets p) (begun : startFault p ≡ 0) (whole 
   size-read : size (value os) ≡ s
   size-read = size-exact address-read (right .0) (omega (arith, value-lt os are, ap (λ (k : ℕ). 256 ^ k) many)) some least
 
-  take-read : take (start + s) p ≡ header (value os)
+  take-read : take (fixedOctets + s) p ≡ header (value os)
   unfolding header os s addressOctets
   take-read =
       let (o, rest, q, top) = startFault-zero p begun in
       let told : s ≡ o % 32 + 1 = unfold sizeTold in ap (λ (l : List ℕ). getD l 1 0 % 32 + 1) q in
-      let second : o ≡ critical * 32 + (s - 1) = omega arith in
-      take-add start s p
-      ∙ ap (λ (l : List ℕ). take start l ++ os) q
-      ∙ ap₂ (λ (x : ℕ) (l : List ℕ). page ∷ x ∷ type ∷ l) second (sym (octets-value os are) ∙ ap (λ (k : ℕ). octets k (value os)) many)
-      ∙ ap (λ (k : ℕ). page ∷ (critical * 32 + (k - 1)) ∷ type ∷ octets k (value os)) (sym size-read)
+      let second : o ≡ criticalPattern * 32 + (s - 1) = omega arith in
+      take-add fixedOctets s p
+      ∙ ap (λ (l : List ℕ). take fixedOctets l ++ os) q
+      ∙ ap₂ (λ (x : ℕ) (l : List ℕ). pageOctet ∷ x ∷ routingType ∷ l) second (sym (octets-value os are) ∙ ap (λ (k : ℕ). octets k (value os)) many)
+      ∙ ap (λ (k : ℕ). pageOctet ∷ (criticalPattern * 32 + (k - 1)) ∷ routingType ∷ octets k (value os)) (sym size-read)
 
-  as-read : (a k : ℕ) → value os ≡ a → start + s ≡ k → IsAddress a × (k ≤ length p) × (k ≡ place a) × (take k p ≡ header a)
+  as-read : (a k : ℕ) → value os ≡ a → fixedOctets + s ≡ k → IsAddress a × (k ≤ length p) × (k ≡ place a) × (take k p ≡ header a)
   unfolding place
   as-read a k e f = (
     subst IsAddress e address-read,
     subst (λ (n : ℕ). n ≤ length p) f (right .1),
-    sym f ∙ ap (λ (n : ℕ). start + n) (sym size-read ∙ ap size e),
+    sym f ∙ ap (λ (n : ℕ). fixedOctets + n) (sym size-read ∙ ap size e),
     ap (λ (n : ℕ). take n p) (sym f) ∙ take-read ∙ ap header e,
   )
 
@@ -163,8 +163,8 @@ wrote-header : (a : ℕ) (buffer : List ℕ) → IsAddress a → place a ≤ len
 unfolding write
 wrote-header a buffer n h =
     let done = writing-done a buffer (not-zero n) h in (
-      ap (λ (w : Effect). w .answer) done ∙ ap wrote (length-header a),
-      ap (λ (w : Effect). w .buffer) done ∙ ap (λ (k : ℕ). header a ++ drop k buffer) (length-header a),
+      ap (λ (w : WriteEffect). w .answer) done ∙ ap wrote (length-header a),
+      ap (λ (w : WriteEffect). w .buffer) done ∙ ap (λ (k : ℕ). header a ++ drop k buffer) (length-header a),
     )
 
 pub round-trip : RoundTrip writing reading
@@ -193,7 +193,7 @@ zeros = 0 ∷ 0 ∷ 0 ∷ 0 ∷ 0 ∷ []
 
 pub silent-writer-refuted : RoundTrip silentWriter reading → ⊥
 unfolding silentWriter zeros reading startFault inOrder place size bitLength bits bitsIn
-silent-writer-refuted claim = omega (arith, ap (λ (x : Answer). x .refusal) (claim .readsBack 1 zeros one (lit≤ tt) .1))
+silent-writer-refuted claim = omega (arith, ap (λ (x : HeaderAnswer). x .refusal) (claim .readsBack 1 zeros one (lit≤ tt) .1))
 
 pub refusing-writer-refuted : RoundTrip refusingWriter reading → ⊥
 unfolding refusingWriter refuseWriting zeros place size bitLength bits bitsIn

@@ -12,25 +12,25 @@ use Rattle.address.specs.Choice.{if_then_else_}
 use Rattle.octets.specs.Octets.{AreOctets}
 use Rattle.address.proofs.ChoiceLaws.{if-zero}
 use Rattle.octets.proofs.OctetLaws.{take-octets, drop-octets}
-use Rattle.header.specs.Header.{addressOctets, addressFault, zeroFault, sizeAllowed, start}
+use Rattle.header.specs.Header.{addressOctets, addressFault, zeroFault, sizeAllowed, fixedOctets}
 
-pub length-addressOctets : (s : ℕ) (p : List ℕ) → start + s ≤ length p → length (addressOctets s p) ≡ s
+pub length-addressOctets : (s : ℕ) (p : List ℕ) → fixedOctets + s ≤ length p → length (addressOctets s p) ≡ s
 unfolding addressOctets
 length-addressOctets s p h = simp (length-take, length-drop) (omega arith)
 
-pub part-addressOctets : (s : ℕ) (p : List ℕ) → take (start + s - start) (drop start p) ≡ addressOctets s p
+pub part-addressOctets : (s : ℕ) (p : List ℕ) → take (fixedOctets + s - fixedOctets) (drop fixedOctets p) ≡ addressOctets s p
 unfolding addressOctets
-part-addressOctets s p = ap (λ (k : ℕ). take k (drop start p)) (add-sub-cancel-left start s)
+part-addressOctets s p = ap (λ (k : ℕ). take k (drop fixedOctets p)) (add-sub-cancel-left fixedOctets s)
 
 pub octets-addressOctets : (s : ℕ) (p : List ℕ) → AreOctets p → AreOctets (addressOctets s p)
 unfolding addressOctets
-octets-addressOctets s p all = take-octets s (drop start p) (drop-octets start p all)
+octets-addressOctets s p all = take-octets s (drop fixedOctets p) (drop-octets fixedOctets p all)
 
 -- no fault: the size is allowed, the octets are there, and they are no zeros
 pub addressFault-zero : (s : ℕ) (p : List ℕ) → addressFault s p ≡ 0
-    → (sizeAllowed s ≡ true) × (start + s ≤ length p) × (zeroFault s (addressOctets s p) ≡ 0)
+    → (sizeAllowed s ≡ true) × (fixedOctets + s ≤ length p) × (zeroFault s (addressOctets s p) ≡ 0)
 unfolding addressFault
 addressFault-zero s p e =
     let first = if-zero (not (sizeAllowed s)) 5 _ e in
-    let second = if-zero (ltb (length p) (start + s)) 3 _ (first .1) in
-    (not-false (sizeAllowed s) (first .0), ltb-false (length p) (start + s) (second .0), second .1)
+    let second = if-zero (ltb (length p) (fixedOctets + s)) 3 _ (first .1) in
+    (not-false (sizeAllowed s) (first .0), ltb-false (length p) (fixedOctets + s) (second .0), second .1)

@@ -5,11 +5,11 @@ use mathlib.Core.List.{List}
 use Prim.Native.Nat.{ℕ}
 use contract.Lifetimes.{Lfts}
 use denote.Ref.{RefT, now}
-use Rattle.octets.specs.Octets.{Effect}
+use Rattle.octets.specs.Octets.{WriteEffect}
 use Rattle.address.specs.declared.Address.{Address}
 use Rattle.octets.specs.declared.Written.{Written}
 use Rattle.header.specs.declared.Reading.{Reading}
-use Rattle.header.specs.Header.{writing, Answer, foundCase, refusedCase, answer, reading}
+use Rattle.header.specs.Header.{writing, HeaderAnswer, Found, Refused, headerAnswer, reading}
 use Rattle.header.proofs.Cases.{reading-refused}
 use Rattle.header.proofs.write.Reads as write-reads
 use Rattle.header.proofs.read.Reads as read-reads
@@ -25,15 +25,15 @@ write-promise κs address out last r h = ap₂ (λ (w : Written) (b : List ℕ).
 
 pub read-promise : (κs : Lfts 1) (packet : Slice) (r : Reading)
     → read-reads.Learnt κs (packet, tt) r (packet, tt)
-    → answer r ≡ reading (now packet)
+    → headerAnswer r ≡ reading (now packet)
 read-promise κs packet r h = h
 
 -- the numbers promised leave one answer
-pub one-reading : (p : List ℕ) (r s : Reading) → answer r ≡ reading p → answer s ≡ reading p → r ≡ s
-unfolding answer
-one-reading p (foundCase a k) (foundCase b l) e f =
+pub one-reading : (p : List ℕ) (r s : Reading) → headerAnswer r ≡ reading p → headerAnswer s ≡ reading p → r ≡ s
+unfolding headerAnswer
+one-reading p (Found a k) (Found b l) e f =
     let same = e ∙ sym f in
-    ap₂ (λ (x y : ℕ). foundCase (record { number = x }) y) (ap (λ (x : Answer). x .address) same) (ap (λ (x : Answer). x .place) same)
-one-reading p (refusedCase m) (refusedCase n) e f = ap (λ (x : Answer). refusedCase (x .refusal)) (e ∙ sym f)
-one-reading p (foundCase a k) (refusedCase n) e f = absurd (reading-refused p (sym f) (ap (λ (x : Answer). x .refusal) (f ∙ sym e)))
-one-reading p (refusedCase m) (foundCase b l) e f = absurd (reading-refused p (sym e) (ap (λ (x : Answer). x .refusal) (e ∙ sym f)))
+    ap₂ (λ (x y : ℕ). Found (record { number = x }) y) (ap (λ (x : HeaderAnswer). x .address) same) (ap (λ (x : HeaderAnswer). x .place) same)
+one-reading p (Refused m) (Refused n) e f = ap (λ (x : HeaderAnswer). Refused (x .refusal)) (e ∙ sym f)
+one-reading p (Found a k) (Refused n) e f = absurd (reading-refused p (sym f) (ap (λ (x : HeaderAnswer). x .refusal) (f ∙ sym e)))
+one-reading p (Refused m) (Found b l) e f = absurd (reading-refused p (sym e) (ap (λ (x : HeaderAnswer). x .refusal) (e ∙ sym f)))

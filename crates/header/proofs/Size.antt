@@ -10,9 +10,9 @@ use lib.Dec.{leb, eqb}
 use lib.Pow.{pow-add, pow-mono}
 use Rattle.address.specs.Bits.{longest}
 use Rattle.address.specs.Address.{bitLength}
-use Rattle.address.specs.Reading.{IsAddress}
+use Rattle.address.specs.Numbers.{IsAddress}
 use Rattle.address.proofs.Numbers.{bitLength-le, bitLength-pos, lt-bitLength, ge-bitLength}
-use Rattle.header.specs.Header.{size, sizeAllowed, unit, most}
+use Rattle.header.specs.Header.{size, sizeAllowed, unit, mostOctets}
 use Rattle.header.specs.Fewest.{IsFewest, FewestPairs}
 
 octets-pow : (s : ℕ) → 256 ^ s ≡ 2 ^ (8 * s)
@@ -38,7 +38,7 @@ lt-octets {a} s n h = subst (λ (p : ℕ). a < p) (sym (octets-pow s)) (lt-of-lt
 octets-le : {a : ℕ} (s : ℕ) → IsAddress a → 8 * s < bitLength a → 256 ^ s ≤ a
 octets-le {a} s n h = subst (λ (p : ℕ). p ≤ a) (sym (octets-pow s)) (le-trans (pow-mono (omega arith)) (ge-bitLength n))
 
-pub size-le : {a : ℕ} → a < 2 ^ longest → size a ≤ most
+pub size-le : {a : ℕ} → a < 2 ^ longest → size a ≤ mostOctets
 unfolding size
 size-le h = omega (arith, bitLength-le h)
 
@@ -48,13 +48,13 @@ size-ge n = omega (arith, bitLength-pos n)
 
 pub size-allowed : {a : ℕ} → a < 2 ^ longest → sizeAllowed (size a) ≡ true
 unfolding sizeAllowed size
-size-allowed {a} h = ap₂ _&&_ (le-leb (size a) most (size-le h)) (eq-eqb (size a % unit) 0 (omega arith))
+size-allowed {a} h = ap₂ _&&_ (le-leb (size a) mostOctets (size-le h)) (eq-eqb (size a % unit) 0 (omega arith))
 
-allowed-parts : {s : ℕ} → sizeAllowed s ≡ true → (s ≤ most) × (s % unit ≡ 0)
+allowed-parts : {s : ℕ} → sizeAllowed s ≡ true → (s ≤ mostOctets) × (s % unit ≡ 0)
 unfolding sizeAllowed
-allowed-parts {s} h = let (short, even) = and-eq-true-iff (leb s most) (eqb (s % unit) 0) .0 h in (leb-true s most short, eqb-true (s % unit) 0 even)
+allowed-parts {s} h = let (short, even) = and-eq-true-iff (leb s mostOctets) (eqb (s % unit) 0) .0 h in (leb-true s mostOctets short, eqb-true (s % unit) 0 even)
 
-pub sizeAllowed-le : {s : ℕ} → sizeAllowed s ≡ true → s ≤ most
+pub sizeAllowed-le : {s : ℕ} → sizeAllowed s ≡ true → s ≤ mostOctets
 sizeAllowed-le h = allowed-parts h .0
 
 pub sizeAllowed-ge : {s : ℕ} → sizeAllowed s ≡ true → 0 < s → unit ≤ s

@@ -10,7 +10,7 @@ use borrow.Author.Tests.{eq-eqb, eqb-true}
 use native.Mathlib.Omega.{arith}
 use Rattle.address.specs.Choice.{if_then_else_}
 use Rattle.address.proofs.ChoiceLaws.{else-zero}
-use Rattle.header.specs.Header.{inOrder, startFault, start, page, critical, type, isPage, isCritical, isType}
+use Rattle.header.specs.Header.{inOrder, startFault, fixedOctets, pageOctet, criticalPattern, routingType, isPageOctet, hasCriticalPattern, isRoutingType}
 
 module _ (right : ℕ → Bool) (rest : List (ℕ → Bool)) (p : List ℕ) (i : ℕ) where
   pub inOrder-absent : length p ≤ i → inOrder (right ∷ rest) (drop i p) ≡ 4
@@ -26,30 +26,30 @@ module _ (right : ℕ → Bool) (rest : List (ℕ → Bool)) (p : List ℕ) (i :
   inOrder-right h e = rw (drop-cons p i 0 h, e)
 
 -- the first octet, and the first two, are right: what the next check says decides
-pub startFault-page : (p : List ℕ) → 0 < length p → getD p 0 0 ≡ page → startFault p ≡ inOrder (isCritical ∷ isType ∷ []) (drop 1 p)
+pub startFault-page : (p : List ℕ) → 0 < length p → getD p 0 0 ≡ pageOctet → startFault p ≡ inOrder (hasCriticalPattern ∷ isRoutingType ∷ []) (drop 1 p)
 unfolding startFault
-startFault-page p h e = inOrder-right isPage (isCritical ∷ isType ∷ []) p 0 h (eq-eqb (getD p 0 0) page e)
+startFault-page p h e = inOrder-right isPageOctet (hasCriticalPattern ∷ isRoutingType ∷ []) p 0 h (eq-eqb (getD p 0 0) pageOctet e)
 
-pub startFault-critical : (p : List ℕ) → 1 < length p → getD p 0 0 ≡ page → getD p 1 0 / 32 ≡ critical → startFault p ≡ inOrder (isType ∷ []) (drop 2 p)
+pub startFault-critical : (p : List ℕ) → 1 < length p → getD p 0 0 ≡ pageOctet → getD p 1 0 / 32 ≡ criticalPattern → startFault p ≡ inOrder (isRoutingType ∷ []) (drop 2 p)
 startFault-critical p h e f =
-    startFault-page p (omega arith) e ∙ inOrder-right isCritical (isType ∷ []) p 1 h (eq-eqb (getD p 1 0 / 32) critical f)
+    startFault-page p (omega arith) e ∙ inOrder-right hasCriticalPattern (isRoutingType ∷ []) p 1 h (eq-eqb (getD p 1 0 / 32) criticalPattern f)
 
 -- what a packet is whose first three octets are right
-pub startFault-zero : (p : List ℕ) → startFault p ≡ 0 → (o : ℕ) × (rest : List ℕ) × (p ≡ page ∷ o ∷ type ∷ rest) × (o / 32 ≡ critical)
+pub startFault-zero : (p : List ℕ) → startFault p ≡ 0 → (o : ℕ) × (rest : List ℕ) × (p ≡ pageOctet ∷ o ∷ routingType ∷ rest) × (o / 32 ≡ criticalPattern)
 unfolding startFault inOrder
 startFault-zero [] e = absurd (omega arith)
-startFault-zero (a ∷ []) e = let first = else-zero (eqb a page) _ 4 e in absurd (omega (arith, first .1))
+startFault-zero (a ∷ []) e = let first = else-zero (eqb a pageOctet) _ 4 e in absurd (omega (arith, first .1))
 startFault-zero (a ∷ b ∷ []) e =
-    let first = else-zero (eqb a page) _ 4 e in let second = else-zero (eqb (b / 32) critical) _ 4 (first .1) in absurd (omega (arith, second .1))
+    let first = else-zero (eqb a pageOctet) _ 4 e in let second = else-zero (eqb (b / 32) criticalPattern) _ 4 (first .1) in absurd (omega (arith, second .1))
 startFault-zero (a ∷ b ∷ c ∷ rest) e =
-    let first = else-zero (eqb a page) _ 4 e in
-    let second = else-zero (eqb (b / 32) critical) _ 4 (first .1) in
-    let third = else-zero (eqb c type) _ 4 (second .1) in (
+    let first = else-zero (eqb a pageOctet) _ 4 e in
+    let second = else-zero (eqb (b / 32) criticalPattern) _ 4 (first .1) in
+    let third = else-zero (eqb c routingType) _ 4 (second .1) in (
       b,
       rest,
-      ap₂ (λ (x z : ℕ). x ∷ b ∷ z ∷ rest) (eqb-true a page (first .0)) (eqb-true c type (third .0)),
-      eqb-true (b / 32) critical (second .0),
+      ap₂ (λ (x z : ℕ). x ∷ b ∷ z ∷ rest) (eqb-true a pageOctet (first .0)) (eqb-true c routingType (third .0)),
+      eqb-true (b / 32) criticalPattern (second .0),
     )
 
-pub startFault-length : (p : List ℕ) → startFault p ≡ 0 → start ≤ length p
+pub startFault-length : (p : List ℕ) → startFault p ≡ 0 → fixedOctets ≤ length p
 startFault-length p e = omega (arith, ap length (startFault-zero p e .2))

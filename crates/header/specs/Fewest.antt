@@ -2,7 +2,7 @@
 use Prim.Native.Nat.{ℕ, _^_, _<_, _≤_}
 use mathlib.Core.Bool.{true}
 use mathlib.Core.Path.{_≡_}
-use Rattle.address.specs.Reading.{IsAddress}
+use Rattle.address.specs.Numbers.{IsAddress}
 use Rattle.header.specs.Header.{size, sizeAllowed}
 
 pub record IsFewest (a : ℕ) : Type 0 where

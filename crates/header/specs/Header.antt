@@ -8,9 +8,9 @@ use lib.ListN.{length, take, drop, getD}
 use lib.Dec.{eqb, ltb, leb}
 use Rattle.address.specs.Choice.{if_then_else_}
 use Rattle.address.specs.Address.{bitLength}
-use Rattle.octets.specs.Octets.{octets, value, Effect, refuseWriting, write}
+use Rattle.octets.specs.Octets.{octets, value, WriteEffect, refuseWriting, write}
 pub use Rattle.header.specs.declared.Reading.{Reading}
-pub use Rattle.header.specs.declared.Reading.the-variants.{Found as foundCase, Refused as refusedCase}
+pub use Rattle.header.specs.declared.Reading.the-variants.{Found, Refused}
 
 -- ---- how many octets an address takes
 
@@ -19,8 +19,8 @@ abbrev pub unit : ℕ
 unit = 2
 
 -- the most octets that an address takes
-abbrev pub most : ℕ
-most = 8
+abbrev pub mostOctets : ℕ
+mostOctets = 8
 
 -- "The address takes the fewest pairs of octets that hold it": the bit length, rounded up to whole pairs. specs/Fewest.antt says that
 -- these are the fewest.
@@ -29,34 +29,35 @@ size a = (bitLength a + (8 * unit - 1)) / (8 * unit) * unit
 
 -- "2, 4, 6 or 8 octets", of a size that is at least 1
 unfoldable pub sizeAllowed : ℕ → Bool
-sizeAllowed s = leb s most && eqb (s % unit) 0
+sizeAllowed s = leb s mostOctets && eqb (s % unit) 0
 
 -- ---- writing
 
--- page 1
-abbrev pub page : ℕ
-page = 0xF1
+-- "octet 0xF1 (page 1, RFC 8025)"
+abbrev pub pageOctet : ℕ
+pageOctet = 0xF1
 
--- the top three bits of the second octet, 100
-abbrev pub critical : ℕ
-critical = 4
+-- the top three bits of the second octet, "100sssss": RFC 8138's pattern of a critical routing header
+abbrev pub criticalPattern : ℕ
+criticalPattern = 4
 
-abbrev pub type : ℕ
-type = 15
+-- "octet 15 as the type (house choice until a number is assigned)"
+abbrev pub routingType : ℕ
+routingType = 15
 
 -- the octets before the address
-abbrev pub start : ℕ
-start = 3
+abbrev pub fixedOctets : ℕ
+fixedOctets = 3
 
 -- where the address's octets end and the payload begins
 unfoldable pub place : ℕ → ℕ
-place a = start + size a
+place a = fixedOctets + size a
 
 unfoldable pub header : ℕ → List ℕ
-header a = page ∷ (critical * 32 + (size a - 1)) ∷ type ∷ octets (size a) a
+header a = pageOctet ∷ (criticalPattern * 32 + (size a - 1)) ∷ routingType ∷ octets (size a) a
 
 -- "For writing a header 9, 10.": the address is zero; the lent output is too short
-unfoldable pub writing : ℕ → List ℕ → Effect
+unfoldable pub writing : ℕ → List ℕ → WriteEffect
 writing a buffer =
     if eqb a 0 then refuseWriting 9 buffer
     else if ltb (length buffer) (place a) then refuseWriting 10 buffer
@@ -65,22 +66,22 @@ writing a buffer =
 -- ---- reading
 
 -- what a reading says: its number, the address and the place where the payload begins
-pub record Answer : Type 0 where
+pub record HeaderAnswer : Type 0 where
   pub refusal : ℕ
   pub address : ℕ
   pub place : ℕ
 
-abbrev pub found : ℕ → ℕ → Answer
+abbrev pub found : ℕ → ℕ → HeaderAnswer
 found a k = record { refusal = 0; address = a; place = k }
 
 -- "With any refusal the address, place, hop count and every other number returned beside its own are 0"
-abbrev pub refused : ℕ → Answer
-refused n = record { refusal = n; address = 0; place = 0 }
+abbrev pub refusedHeader : ℕ → HeaderAnswer
+refusedHeader n = record { refusal = n; address = 0; place = 0 }
 
 -- the document's number and values for each case of the answer
-unfoldable pub answer : Reading → Answer
-answer (foundCase a k) = found (a .number) k
-answer (refusedCase n) = refused n
+unfoldable pub headerAnswer : Reading → HeaderAnswer
+headerAnswer (Found a k) = found (a .number) k
+headerAnswer (Refused n) = refusedHeader n
 
 -- "the first three octets are checked in order; one that is absent is 4, one that is wrong is 5": 0 where none is
 unfoldable pub inOrder : List (ℕ → Bool) → List ℕ → ℕ
@@ -88,18 +89,18 @@ inOrder [] p = 0
 inOrder (right ∷ rest) [] = 4
 inOrder (right ∷ rest) (o ∷ p) = if right o then inOrder rest p else 5
 
-abbrev pub isPage : ℕ → Bool
-isPage o = eqb o page
+abbrev pub isPageOctet : ℕ → Bool
+isPageOctet o = eqb o pageOctet
 
 -- "(of the second only its top three bits)"
-abbrev pub isCritical : ℕ → Bool
-isCritical o = eqb (o / 32) critical
+abbrev pub hasCriticalPattern : ℕ → Bool
+hasCriticalPattern o = eqb (o / 32) criticalPattern
 
-abbrev pub isType : ℕ → Bool
-isType o = eqb o type
+abbrev pub isRoutingType : ℕ → Bool
+isRoutingType o = eqb o routingType
 
 unfoldable pub startFault : List ℕ → ℕ
-startFault p = inOrder (isPage ∷ isCritical ∷ isType ∷ []) p
+startFault p = inOrder (isPageOctet ∷ hasCriticalPattern ∷ isRoutingType ∷ []) p
 
 -- the number of address octets that the second octet tells
 unfoldable pub sizeTold : List ℕ → ℕ
@@ -107,7 +108,7 @@ sizeTold p = getD p 1 0 % 32 + 1
 
 -- the address octets of a packet that has s of them
 unfoldable pub addressOctets : ℕ → List ℕ → List ℕ
-addressOctets s p = take s (drop start p)
+addressOctets s p = take s (drop fixedOctets p)
 
 -- "with 2 octets, address zero is 9; with more, a first pair of zeros is 6": 0 where neither is
 unfoldable pub zeroFault : ℕ → List ℕ → ℕ
@@ -120,12 +121,12 @@ zeroFault s os =
 unfoldable pub addressFault : ℕ → List ℕ → ℕ
 addressFault s p =
     if not (sizeAllowed s) then 6
-    else if ltb (length p) (start + s) then 4
+    else if ltb (length p) (fixedOctets + s) then 4
     else zeroFault s (addressOctets s p)
 
 -- "The answer is the address and the place where the payload begins."
-unfoldable pub reading : List ℕ → Answer
+unfoldable pub reading : List ℕ → HeaderAnswer
 reading p =
-    if not (eqb (startFault p) 0) then refused (startFault p)
-    else if not (eqb (addressFault (sizeTold p) p) 0) then refused (addressFault (sizeTold p) p)
-    else found (value (addressOctets (sizeTold p) p)) (start + sizeTold p)
+    if not (eqb (startFault p) 0) then refusedHeader (startFault p)
+    else if not (eqb (addressFault (sizeTold p) p) 0) then refusedHeader (addressFault (sizeTold p) p)
+    else found (value (addressOctets (sizeTold p) p)) (fixedOctets + sizeTold p)

@@ -4,16 +4,16 @@ use mathlib.Core.Path.{_≡_}
 use mathlib.Core.List.{List}
 use Prim.Native.Nat.{ℕ, _≤_}
 use lib.ListN.{length, take}
-use Rattle.address.specs.Reading.{IsAddress}
-use Rattle.octets.specs.Octets.{Effect, AreOctets, wrote}
-use Rattle.header.specs.Header.{Answer, found, place}
+use Rattle.address.specs.Numbers.{IsAddress}
+use Rattle.octets.specs.Octets.{WriteEffect, AreOctets, wrote}
+use Rattle.header.specs.Header.{HeaderAnswer, found, place}
 
 -- the address, and the lent buffer as it comes
 abbrev pub Writer : Type 0
-Writer = ℕ → List ℕ → Effect
+Writer = ℕ → List ℕ → WriteEffect
 
 abbrev pub Reader : Type 0
-Reader = List ℕ → Answer
+Reader = List ℕ → HeaderAnswer
 
 pub record RoundTrip (writer : Writer) (reader : Reader) : Type 0 where
   -- in every buffer that has room the address is written, and the buffer reads as the address; what stood behind is the payload

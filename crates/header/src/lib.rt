@@ -4,7 +4,7 @@ use octets::Written;
 ghost use mathlib.Core.Path.{_≡_};
 ghost use Prim.Native.Nat.{_≤_};
 ghost use lib.ListN.{length};
-ghost use Rattle.header.specs.Header.{size, unit, most, writing, answer, reading, startFault, zeroFault, addressFault};
+ghost use Rattle.header.specs.Header.{size, unit, mostOctets, writing, headerAnswer, reading, startFault, zeroFault, addressFault};
 
 // Refusals: "the packet ends too early", "one of the first three octets is wrong", "size not allowed, or more pairs than needed",
 // "lent output too short".
@@ -16,17 +16,17 @@ pub const WRONG_SIZE: u8 = 6;
 
 pub const NO_ROOM: u8 = 10;
 
-const PAGE: u8 = 0xF1;
+const PAGE_OCTET: u8 = 0xF1;
 
-const CRITICAL: u8 = 4;
+const CRITICAL_PATTERN: u8 = 4;
 
-const TYPE: u8 = 15;
+const ROUTING_TYPE: u8 = 15;
 
-const START: usize = 3;
+const FIXED_OCTETS: usize = 3;
 // An address takes so many octets at a time, and at most so many.
 const UNIT: usize = 2;
 
-const MOST: usize = 8;
+const MOST_OCTETS: usize = 8;
 
 // What reading a header answers: the address and the place where the payload begins, or a refusal.
 pub enum Reading {
@@ -52,17 +52,17 @@ pub fn write(address: Address, out: &mut [u8]) -> Written
         };
     }
     let size = size_of(address);
-    let end = START + size;
+    let end = FIXED_OCTETS + size;
     if out.len() < end {
         return Written {
             refusal: NO_ROOM,
             count: 0,
         };
     }
-    out[0] = PAGE;
-    out[1] = CRITICAL * 32 + (size - 1) as u8;
-    out[2] = TYPE;
-    octets::put(address.number, &mut out[START..end]);
+    out[0] = PAGE_OCTET;
+    out[1] = CRITICAL_PATTERN * 32 + (size - 1) as u8;
+    out[2] = ROUTING_TYPE;
+    octets::put(address.number, &mut out[FIXED_OCTETS..end]);
     Written {
         refusal: 0,
         count: end,
@@ -76,19 +76,19 @@ fn start_fault(packet: &[u8]) -> u8
     if packet.len() <= 0 {
         return ENDS_EARLY;
     }
-    if packet[0] != PAGE {
+    if packet[0] != PAGE_OCTET {
         return WRONG_START;
     }
     if packet.len() <= 1 {
         return ENDS_EARLY;
     }
-    if packet[1] / 32 != CRITICAL {
+    if packet[1] / 32 != CRITICAL_PATTERN {
         return WRONG_START;
     }
     if packet.len() <= 2 {
         return ENDS_EARLY;
     }
-    if packet[2] != TYPE {
+    if packet[2] != ROUTING_TYPE {
         return WRONG_START;
     }
     0
@@ -97,7 +97,7 @@ fn start_fault(packet: &[u8]) -> u8
 // The fault of an address's octets, 0 where there is none: zero, or octets that a shorter form does without.
 fn zero_fault(octets: &[u8]) -> u8
     requires { ⌜ unit ≤ length (now octets) ⌝ }
-    requires { ⌜ length (now octets) ≤ most ⌝ }
+    requires { ⌜ length (now octets) ≤ mostOctets ⌝ }
     ensures { λ r. ⌜ r ≡ zeroFault (length (now (octets .entry))) (now (octets .entry)) ⌝ }
 {
     if octets.len() == UNIT {
@@ -117,22 +117,22 @@ fn address_fault(packet: &[u8], size: usize) -> u8
     requires { ⌜ 1 ≤ size ⌝ }
     ensures { λ r. ⌜ r ≡ addressFault size (now (packet .entry)) ⌝ }
 {
-    if MOST < size {
+    if MOST_OCTETS < size {
         return WRONG_SIZE;
     }
     if size % UNIT != 0 {
         return WRONG_SIZE;
     }
-    let end = START + size;
+    let end = FIXED_OCTETS + size;
     if packet.len() < end {
         return ENDS_EARLY;
     }
-    zero_fault(&packet[START..end])
+    zero_fault(&packet[FIXED_OCTETS..end])
 }
 
 // Reads the header at the front of a packet.
 pub fn read(packet: &[u8]) -> Reading
-    ensures { λ r. ⌜ answer r ≡ reading (now (packet .entry)) ⌝ }
+    ensures { λ r. ⌜ headerAnswer r ≡ reading (now (packet .entry)) ⌝ }
 {
     let wrong_start = start_fault(packet);
     if wrong_start != 0 {
@@ -143,7 +143,7 @@ pub fn read(packet: &[u8]) -> Reading
     if wrong_address != 0 {
         return Reading::Refused(wrong_address);
     }
-    let end = START + size;
-    let number = octets::get(&packet[START..end]);
+    let end = FIXED_OCTETS + size;
+    let number = octets::get(&packet[FIXED_OCTETS..end]);
     Reading::Found(Address::of(number), end)
 }

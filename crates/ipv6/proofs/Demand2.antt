@@ -10,41 +10,41 @@ use lib.Seq.{take-at, drop-at}
 use lib.Dec.{eqb, lit<, lit≤}
 use borrow.Author.Tests.{not-false, eqb-true, eqb-false, ne-eqb}
 use Rattle.address.specs.Choice.{if_then_else_}
-use Rattle.address.specs.Reading.{IsAddress}
-use Rattle.address.specs.Address.{Answer, validAnswer, refusedAnswer, made}
+use Rattle.address.specs.Numbers.{IsAddress}
+use Rattle.address.specs.Address.{AddressAnswer, validAddress, refusedAddress, made}
 use Rattle.octets.specs.Octets.{octets, value, joined, same, AreOctets, wrote, write, refuseWriting}
 use Rattle.octets.specs.declared.Written.{Written}
 use Rattle.octets.proofs.OctetLaws.{octets-value, value-octets-of-lt, value-fits, drop-octets}
 use Rattle.octets.proofs.SameLaws.{same-true}
-use Rattle.ipv6.specs.Form.{half, whole, form, writing, reading}
+use Rattle.ipv6.specs.Form.{half, whole, form, formWriting, formReading}
 use Rattle.ipv6.specs.RoundTrip.{RoundTrip}
 use Rattle.ipv6.specs.WrongWriters.{silentWriter, refusingWriter}
-use Rattle.ipv6.proofs.FormLaws.{length-form, writing-done, reading-same}
+use Rattle.ipv6.proofs.FormLaws.{length-form, formWriting-done, formReading-same}
 
 -- an address is written, and leaves its form in front
 written : (prefix : List ℕ) (a : ℕ) (buffer : List ℕ) → length prefix ≡ half → 0 < a → whole ≤ length buffer
-    → (writing prefix a buffer .answer ≡ wrote whole) × (take whole (writing prefix a buffer .buffer) ≡ form prefix a)
+    → (formWriting prefix a buffer .answer ≡ wrote whole) × (take whole (formWriting prefix a buffer .buffer) ≡ form prefix a)
 unfolding write
 written prefix a buffer l some room =
-    rw (writing-done prefix a buffer l (λ z. omega arith) room)
+    rw (formWriting-done prefix a buffer l (λ z. omega arith) room)
     (ap wrote (length-form prefix a l), take-at (form prefix a) (drop (length (form prefix a)) buffer) whole (length-form prefix a l))
 
-made-some : (a : ℕ) → 0 < a → made a ≡ validAnswer a
+made-some : (a : ℕ) → 0 < a → made a ≡ validAddress a
 unfolding made
 made-some a some = rw (ne-eqb a 0 (λ z. omega arith))
 
-reading-form : (prefix : List ℕ) (a : ℕ) → length prefix ≡ half → IsAddress a → reading prefix (form prefix a) ≡ validAnswer a
+formReading-form : (prefix : List ℕ) (a : ℕ) → length prefix ≡ half → IsAddress a → formReading prefix (form prefix a) ≡ validAddress a
 unfolding form
-reading-form prefix a l address =
-    reading-same prefix (form prefix a) l (length-form prefix a l) (take-at prefix (octets half a) half l)
+formReading-form prefix a l address =
+    formReading-same prefix (form prefix a) l (length-form prefix a l) (take-at prefix (octets half a) half l)
     ∙ ap (λ (os : List ℕ). made (value os)) (drop-at prefix (octets half a) half l)
     ∙ ap made (value-octets-of-lt half a (address .fits))
     ∙ made-some a (address .some)
 
 -- a choice between a refusal and what the next check says is an address only by the next check
-else-valid : {a : ℕ} (t : Bool) (n : ℕ) (rest : Answer) → (if t then refusedAnswer (suc n) else rest) ≡ validAnswer a
-    → (t ≡ false) × (rest ≡ validAnswer a)
-else-valid true n rest e = absurd (omega (arith, ap (λ (x : Answer). x .refusal) e))
+else-valid : {a : ℕ} (t : Bool) (n : ℕ) (rest : AddressAnswer) → (if t then refusedAddress (suc n) else rest) ≡ validAddress a
+    → (t ≡ false) × (rest ≡ validAddress a)
+else-valid true n rest e = absurd (omega (arith, ap (λ (x : AddressAnswer). x .refusal) e))
 else-valid false n rest e = (refl, e)
 
 -- what reads as an address
@@ -55,14 +55,14 @@ record Read (prefix ipv6 : List ℕ) (a : ℕ) : Type 0 where
   back : value (drop half ipv6) ≡ a
   some : 0 < a
 
-reading-valid : (prefix ipv6 : List ℕ) (a : ℕ) → reading prefix ipv6 ≡ validAnswer a → Read prefix ipv6 a
-unfolding reading
-reading-valid prefix ipv6 a e =
+formReading-valid : (prefix ipv6 : List ℕ) (a : ℕ) → formReading prefix ipv6 ≡ validAddress a → Read prefix ipv6 a
+unfolding formReading
+formReading-valid prefix ipv6 a e =
     let lengths = else-valid (not (eqb (length prefix) half && eqb (length ipv6) whole)) 11 _ e in
     let front = else-valid (not (same (take half ipv6) prefix)) 7 _ (lengths .1) in
     let back = else-valid (eqb (value (drop half ipv6)) 0) 8 _ (front .1) in
     let both = and-eq-true-iff (eqb (length prefix) half) (eqb (length ipv6) whole) .0 (not-false _ (lengths .0)) in
-    let is : value (drop half ipv6) ≡ a = ap (λ (x : Answer). x .address) (back .1) in
+    let is : value (drop half ipv6) ≡ a = ap (λ (x : AddressAnswer). x .address) (back .1) in
     record {
       prefixed = eqb-true (length prefix) half (both .0);
       sized = eqb-true (length ipv6) whole (both .1);
@@ -80,13 +80,13 @@ form-read {prefix} {ipv6} {a} all r =
       ap₂ (λ (x y : List ℕ). x ++ y) (sym (r .front)) (ap₂ octets (sym l) (sym (r .back)) ∙ octets-value last (drop-octets half ipv6 all)) ∙ take-append-drop half ipv6,
     )
 
-pub round-trip : RoundTrip writing reading
+pub round-trip : RoundTrip formWriting formReading
 round-trip = record {
   readsBack = λ prefix a buffer l address room.
       let w = written prefix a buffer l (address .some) room in
-      (w .0, ap (reading prefix) (w .1) ∙ reading-form prefix a l address);
+      (w .0, ap (formReading prefix) (w .1) ∙ formReading-form prefix a l address);
   writtenSo = λ prefix ipv6 a all e.
-      let r = reading-valid prefix ipv6 a e in
+      let r = formReading-valid prefix ipv6 a e in
       let f = form-read all r in
       (f .0, r .prefixed, r .sized, λ buffer room. let w = written prefix a buffer (r .prefixed) (r .some) room in (w .0, w .1 ∙ f .1));
 }
@@ -96,12 +96,12 @@ round-trip = record {
 one : IsAddress 1
 one = record { some = lit< tt; fits = lit< tt }
 
-pub silent-writer-refuted : RoundTrip silentWriter reading → ⊥
-unfolding silentWriter reading same value joined
+pub silent-writer-refuted : RoundTrip silentWriter formReading → ⊥
+unfolding silentWriter formReading same value joined
 silent-writer-refuted claim =
-    omega (arith, ap (λ (x : Answer). x .refusal) (claim .readsBack (replicate half 0) 1 (replicate whole 0) refl one (lit≤ tt) .1))
+    omega (arith, ap (λ (x : AddressAnswer). x .refusal) (claim .readsBack (replicate half 0) 1 (replicate whole 0) refl one (lit≤ tt) .1))
 
-pub refusing-writer-refuted : RoundTrip refusingWriter reading → ⊥
+pub refusing-writer-refuted : RoundTrip refusingWriter formReading → ⊥
 unfolding refusingWriter refuseWriting
 refusing-writer-refuted claim =
     omega (arith, ap (λ (w : Written). w .refusal) (claim .readsBack (replicate half 0) 1 (replicate whole 0) refl one (lit≤ tt) .0))

@@ -4,25 +4,25 @@ use mathlib.Core.Path.{_≡_}
 use mathlib.Core.List.{List}
 use Prim.Native.Nat.{ℕ, _≤_}
 use lib.ListN.{length, take}
-use Rattle.address.specs.Reading.{IsAddress}
-use Rattle.address.specs.Address.{Answer, validAnswer}
-use Rattle.octets.specs.Octets.{Effect, AreOctets, wrote}
+use Rattle.address.specs.Numbers.{IsAddress}
+use Rattle.address.specs.Address.{AddressAnswer, validAddress}
+use Rattle.octets.specs.Octets.{WriteEffect, AreOctets, wrote}
 use Rattle.ipv6.specs.Form.{half, whole}
 
 -- the prefix, the address, and the lent buffer as it comes
 abbrev pub Writer : Type 0
-Writer = List ℕ → ℕ → List ℕ → Effect
+Writer = List ℕ → ℕ → List ℕ → WriteEffect
 
 -- the prefix, and the IPv6 address
 abbrev pub Reader : Type 0
-Reader = List ℕ → List ℕ → Answer
+Reader = List ℕ → List ℕ → AddressAnswer
 
 pub record RoundTrip (writer : Writer) (reader : Reader) : Type 0 where
   -- with every prefix of 8 octets, in every buffer that has room the address is written, and the first 16 octets read as the address
   pub readsBack : (prefix : List ℕ) (a : ℕ) (buffer : List ℕ) → length prefix ≡ half → IsAddress a → whole ≤ length buffer
-      → (writer prefix a buffer .answer ≡ wrote whole) × (reader prefix (take whole (writer prefix a buffer .buffer)) ≡ validAnswer a)
+      → (writer prefix a buffer .answer ≡ wrote whole) × (reader prefix (take whole (writer prefix a buffer .buffer)) ≡ validAddress a)
   -- whatever reads as an address is 16 octets, and those that we write into any buffer that holds them
-  pub writtenSo : (prefix ipv6 : List ℕ) (a : ℕ) → AreOctets ipv6 → reader prefix ipv6 ≡ validAnswer a
+  pub writtenSo : (prefix ipv6 : List ℕ) (a : ℕ) → AreOctets ipv6 → reader prefix ipv6 ≡ validAddress a
       → IsAddress a × (length prefix ≡ half) × (length ipv6 ≡ whole)
       × ((buffer : List ℕ) → whole ≤ length buffer
       → (writer prefix a buffer .answer ≡ wrote whole) × (take whole (writer prefix a buffer .buffer) ≡ ipv6))

@@ -3,8 +3,8 @@ use address::Address;
 use address::Made;
 use octets::Written;
 ghost use mathlib.Core.Path.{_≡_};
-ghost use Rattle.address.specs.Address.{answer};
-ghost use Rattle.ipv6.specs.Form.{writing, reading};
+ghost use Rattle.address.specs.Address.{madeAnswer};
+ghost use Rattle.ipv6.specs.Form.{formWriting, formReading};
 
 // Refusals: "IPv6 prefix differs", "lent output too short", "an IPv6 address isn't 16 octets, or a prefix isn't 8".
 pub const OTHER_PREFIX: u8 = 8;
@@ -20,7 +20,7 @@ const WHOLE: usize = 16;
 
 // Writes the prefix and the address behind it to the front of the lent buffer.
 pub fn write(prefix: &[u8], address: Address, out: &mut [u8]) -> Written
-    ensures { λ r. ⌜ (r ≡ writing (now (prefix .entry)) (address .number) (now (out .entry)) .answer) × (now (out .exit) ≡ writing (now (prefix .entry)) (address .number) (now (out .entry)) .buffer) ⌝ }
+    ensures { λ r. ⌜ (r ≡ formWriting (now (prefix .entry)) (address .number) (now (out .entry)) .answer) × (now (out .exit) ≡ formWriting (now (prefix .entry)) (address .number) (now (out .entry)) .buffer) ⌝ }
 {
     if prefix.len() != HALF {
         return Written {
@@ -52,7 +52,7 @@ pub fn write(prefix: &[u8], address: Address, out: &mut [u8]) -> Written
 
 // Reads an IPv6 address that begins with the prefix.
 pub fn read(prefix: &[u8], ipv6: &[u8]) -> Made
-    ensures { λ r. ⌜ answer r ≡ reading (now (prefix .entry)) (now (ipv6 .entry)) ⌝ }
+    ensures { λ r. ⌜ madeAnswer r ≡ formReading (now (prefix .entry)) (now (ipv6 .entry)) ⌝ }
 {
     if prefix.len() != HALF {
         return Made::Refused(WRONG_LENGTH);

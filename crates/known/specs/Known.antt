@@ -7,11 +7,11 @@ use lib.ListN.{length, drop}
 use Rattle.address.specs.declared.Kind.{Kind}
 use Rattle.address.specs.declared.Kind.the-variants.{Router, Host}
 use Rattle.address.specs.Bits.{root}
-use Rattle.octets.specs.Octets.{Effect, write}
+use Rattle.octets.specs.Octets.{WriteEffect, write}
 use Rattle.node.specs.Node.{fresh, withCounts, childOf}
 use Rattle.node.specs.declared.Node.{Node}
-use Rattle.forward.specs.Forward.{Answer, upTo, downTo, refused, nextHop}
-use Rattle.header.specs.Header.{writing, reading, refused as refusedReading}
+use Rattle.forward.specs.Forward.{HopAnswer, upTo, downTo, refusedHop, nextHop}
+use Rattle.header.specs.Header.{writing, reading, refusedHeader}
 
 -- the record that stands after some requests, one after the other
 unfoldable pub afterAll : Node → List Kind → Node
@@ -24,7 +24,7 @@ pub data Row : Type 0 where
   -- a record, the kind asked, and the refusal's number
   refuses : Node → Kind → ℕ → Row
   -- a record, a destination, and the answer
-  passes : Node → ℕ → Answer → Row
+  passes : Node → ℕ → HopAnswer → Row
   -- an address, a buffer, and the octets in front of it
   writes : ℕ → List ℕ → List ℕ → Row
   -- a packet, and the refusal's number
@@ -35,7 +35,7 @@ Holds (gives n before kind address) = (childOf (afterAll n before) kind .refusal
 Holds (refuses n kind number) = (childOf n kind .refusal ≡ number) × (childOf n kind .node ≡ n)
 Holds (passes n destination answer) = nextHop n destination ≡ answer
 Holds (writes address buffer octets) = writing address buffer ≡ write octets buffer
-Holds (unread packet number) = reading packet ≡ refusedReading number
+Holds (unread packet number) = reading packet ≡ refusedHeader number
 
 abbrev pub AllHold : List Row → Type 0
 AllHold [] = Unit {0}
@@ -58,7 +58,7 @@ table =
     -- 1110: 7."
     ∷ passes (fresh 0b11) 0b110 (upTo root)
     ∷ passes (withCounts 2 2 (fresh root)) 0b110 (downTo 0b110)
-    ∷ passes (withCounts 2 2 (fresh root)) 0b1110 (refused 7)
+    ∷ passes (withCounts 2 2 (fresh root)) 0b1110 (refusedHop 7)
     -- "P node 10, counts 2,2, destination 101011: child 1010."
     ∷ passes (withCounts 2 2 (fresh 0b10)) 0b101011 (downTo 0b1010)
     -- "P address 111110: header F1 81 0F 00 3E."

@@ -13,7 +13,7 @@ use lib.Seq.{drop-cons, drop-drop}
 use lib.Dec.{eqb}
 use Rattle.address.specs.Choice.{if_then_else_}
 use Rattle.address.specs.Bits.{Bit, O, I, number, longest}
-use Rattle.address.specs.Reading.{IsAddressString}
+use Rattle.address.specs.Numbers.{IsAddressString}
 use Rattle.address.proofs.Numbers.{number-address}
 use Rattle.octets.proofs.SameLaws.{same-refl, same-ne}
 use Rattle.line.specs.Line.{digitOne, digitZero, space, newline, digitsOf, afterDigits, areAddress, afterSpace, asked, between, unreadable}

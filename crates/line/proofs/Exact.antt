@@ -12,12 +12,12 @@ use lib.Dec.{eqb}
 use Rattle.address.specs.Choice.{if_then_else_}
 use Rattle.address.specs.Bits.{Bit, O, I, bits, number}
 use Rattle.octets.specs.Octets.{same}
-use Rattle.address.specs.Reading.{IsAddressString, IsAddress}
+use Rattle.address.specs.Numbers.{IsAddressString, IsAddress}
 use Rattle.address.proofs.Numbers.{bits-string, bits-number, number-bits, number-address}
 use Rattle.octets.proofs.SameLaws.{same-refl, same-true}
 use Rattle.route.specs.Path.{path}
 use Rattle.route.proofs.Length.{at-most-126}
-use Rattle.line.specs.Line.{digitZero, digitOne, space, newline, isDigit, digitsOf, afterDigits, areAddress, afterSpace, Asked, between, unreadable, asked, digit, addressText, refusedText, textFor, outputText}
+use Rattle.line.specs.Line.{digitZero, digitOne, space, newline, isDigit, digitsOf, afterDigits, areAddress, afterSpace, Asked, between, unreadable, asked, digitText, addressText, refusedText, textFor, outputText}
 use Rattle.line.specs.Exactly.{lineOf, ExactlyTheLine, OutputFits}
 use Rattle.line.proofs.Texts.{length-pathText-le}
 use Rattle.line.proofs.Asked.{areAddress-string, string-areAddress}
@@ -25,21 +25,21 @@ use Rattle.line.proofs.Asked.{areAddress-string, string-areAddress}
 -- ---- what is written is read
 
 module _ (o : ℕ) (os : List ℕ) (e : isDigit o ≡ false) where
-  digitsOf-digits : (bs : List Bit) → digitsOf (map digit bs ++ (o ∷ os)) ≡ bs
-  unfolding digitsOf digit
+  digitsOf-digits : (bs : List Bit) → digitsOf (map digitText bs ++ (o ∷ os)) ≡ bs
+  unfolding digitsOf digitText
   digitsOf-digits [] = rw e
   digitsOf-digits (O ∷ bs) = ap (λ (r : List Bit). O ∷ r) (digitsOf-digits bs)
   digitsOf-digits (I ∷ bs) = ap (λ (r : List Bit). I ∷ r) (digitsOf-digits bs)
 
-  afterDigits-digits : (bs : List Bit) → afterDigits (map digit bs ++ (o ∷ os)) ≡ o ∷ os
+  afterDigits-digits : (bs : List Bit) → afterDigits (map digitText bs ++ (o ∷ os)) ≡ o ∷ os
   unfolding afterDigits
-  afterDigits-digits bs = rw (digitsOf-digits bs) (drop-at (map digit bs) (o ∷ os) (length bs) (length-map bs digit))
+  afterDigits-digits bs = rw (digitsOf-digits bs) (drop-at (map digitText bs) (o ∷ os) (length bs) (length-map bs digitText))
 
 asked-digits : (bs cs : List Bit) → IsAddressString bs → IsAddressString cs
-    → asked (map digit bs ++ (space ∷ (map digit cs ++ (newline ∷ [])))) ≡ between (number bs) (number cs)
+    → asked (map digitText bs ++ (space ∷ (map digitText cs ++ (newline ∷ [])))) ≡ between (number bs) (number cs)
 unfolding asked afterSpace
 asked-digits bs cs s t =
-    let rest = map digit cs ++ (newline ∷ []) in
+    let rest = map digitText cs ++ (newline ∷ []) in
     rw (
       digitsOf-digits space rest refl bs,
       afterDigits-digits space rest refl bs,
@@ -52,8 +52,8 @@ asked-digits bs cs s t =
 
 -- ---- what is read is written
 
-digit-octet : (o : ℕ) (u : Bool) → eqb o digitOne ≡ u → isDigit o ≡ true → digit (if u then I else O) ≡ o
-unfolding digit
+digit-octet : (o : ℕ) (u : Bool) → eqb o digitOne ≡ u → isDigit o ≡ true → digitText (if u then I else O) ≡ o
+unfolding digitText
 digit-octet o true e d = sym (eqb-true o digitOne e)
 digit-octet o false e d = go (eqb o digitZero) refl
   where
@@ -61,7 +61,7 @@ digit-octet o false e d = go (eqb o digitZero) refl
     go true f = sym (eqb-true o digitZero f)
     go false f = let g : false ≡ true = rw (f, e) at d in cc
 
-digits-afterDigits : (os : List ℕ) → os ≡ map digit (digitsOf os) ++ afterDigits os
+digits-afterDigits : (os : List ℕ) → os ≡ map digitText (digitsOf os) ++ afterDigits os
 unfolding digitsOf afterDigits
 digits-afterDigits [] = refl
 digits-afterDigits (o ∷ os) = go (isDigit o) refl (digits-afterDigits os)
@@ -69,7 +69,7 @@ digits-afterDigits (o ∷ os) = go (isDigit o) refl (digits-afterDigits os)
     all : Bool → List Bit
     all t = if t then (if eqb o digitOne then I else O) ∷ digitsOf os else []
 
-    go : (t : Bool) → isDigit o ≡ t → os ≡ map digit (digitsOf os) ++ drop (length (digitsOf os)) os → o ∷ os ≡ map digit (all t) ++ drop (length (all t)) (o ∷ os)
+    go : (t : Bool) → isDigit o ≡ t → os ≡ map digitText (digitsOf os) ++ drop (length (digitsOf os)) os → o ∷ os ≡ map digitText (all t) ++ drop (length (all t)) (o ∷ os)
     go true e rest = ap₂ (λ (x : ℕ) (r : List ℕ). x ∷ r) (sym (digit-octet o (eqb o digitOne) refl e)) rest
     go false e rest = refl
 
@@ -115,8 +115,8 @@ module _ (input : List ℕ) (a d : ℕ) where
         let one = bits-number (areAddress-string (digitsOf input) (r .first)) in
         let two = bits-number (areAddress-string (digitsOf behind) (r .second)) in
         digits-afterDigits input
-        ∙ ap (λ (l : List ℕ). map digit (digitsOf input) ++ l) (afterSpace-some (afterDigits input) (r .second))
-        ∙ ap (λ (l : List ℕ). map digit (digitsOf input) ++ (space ∷ l)) (digits-afterDigits behind)
+        ∙ ap (λ (l : List ℕ). map digitText (digitsOf input) ++ l) (afterSpace-some (afterDigits input) (r .second))
+        ∙ ap (λ (l : List ℕ). map digitText (digitsOf input) ++ (space ∷ l)) (digits-afterDigits behind)
         ∙ rw (r .end, ← r .from, ← r .to, one, two) (simp append-assoc)
 
     read-first : IsAddress a

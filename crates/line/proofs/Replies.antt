@@ -10,8 +10,8 @@ use lib.Seq.{take-at}
 use lib.Dec.{ltb}
 use Rattle.address.specs.Choice.{if_then_else_}
 use Rattle.octets.specs.declared.Written.{Written}
-use Rattle.octets.specs.Octets.{Effect, refuseWriting, write}
-use Rattle.address.specs.Reading.{IsAddress}
+use Rattle.octets.specs.Octets.{WriteEffect, refuseWriting, write}
+use Rattle.address.specs.Numbers.{IsAddress}
 use Rattle.route.specs.Path.{path, hops, listing}
 use Rattle.route.proofs.PathLaws.{hops-path}
 use Rattle.route.proofs.Length.{at-most-126}
@@ -41,9 +41,9 @@ module _ (input out : List ℕ) where
   reply-between e = rw e
 
   -- answer and output, each by itself
-  pub reply-parts : {w : Written} {last : List ℕ} → _≡_ {A = Effect} (record { answer = w; buffer = last }) (reply input out)
+  pub reply-parts : {w : Written} {last : List ℕ} → _≡_ {A = WriteEffect} (record { answer = w; buffer = last }) (reply input out)
       → (w ≡ reply input out .answer) × (last ≡ reply input out .buffer)
-  reply-parts e = (ap (λ (f : Effect). f .answer) e, ap (λ (f : Effect). f .buffer) e)
+  reply-parts e = (ap (λ (f : WriteEffect). f .answer) e, ap (λ (f : WriteEffect). f .buffer) e)
 
 pub reply-fits : (input out : List ℕ) → reply input out .answer .count ≤ length out
 unfolding reply refuseWriting write

@@ -14,12 +14,12 @@ use Rattle.address.specs.Bits.{Bit, O, I, lastBit, bitsIn, bits, longest, digit
 use Rattle.address.specs.Address.{bitLength}
 use Rattle.address.proofs.Numbers.{digit-lastBit, bits-snoc}
 use Rattle.route.specs.Path.{hops}
-use Rattle.line.specs.Line.{digitZero, newline, digit, addressText, decimal, lines, hopsText, pathText}
+use Rattle.line.specs.Line.{digitZero, newline, digitText, addressText, decimal, lines, hopsText, pathText}
 
 -- ---- an address
 
-digit-value : (b : Bit) → digit b ≡ digitZero + value b
-unfolding digit value
+digit-value : (b : Bit) → digitText b ≡ digitZero + value b
+unfolding digitText value
 digit-value O = refl
 digit-value I = refl
 
@@ -34,7 +34,7 @@ bits-half n h l = go (eq-zero-or-pos (n / 2))
 
 pub addressText-half : (n : ℕ) → 0 < n → n < 2 ^ longest → addressText n ≡ addressText (n / 2) ++ ((digitZero + n % 2) ∷ [])
 unfolding addressText
-addressText-half n h l = ap (map digit) (bits-half n h l) ∙ rw (map-append, digit-value, digit-lastBit)
+addressText-half n h l = ap (map digitText) (bits-half n h l) ∙ rw (map-append, digit-value, digit-lastBit)
 
 pub addressText-zero : addressText 0 ≡ []
 unfolding addressText bits bitsIn
@@ -42,7 +42,7 @@ addressText-zero = refl
 
 pub length-addressText : (n : ℕ) → length (addressText n) ≡ bitLength n
 unfolding addressText bitLength
-length-addressText n = length-map (bits n) digit
+length-addressText n = length-map (bits n) digitText
 
 length-bitsIn-le : (k n : ℕ) → length (bitsIn k n) ≤ k
 unfolding bitsIn

@@ -8,7 +8,7 @@ use lib.ListN.{length, drop}
 use lib.Dec.{eqb, leb, ltb}
 use Rattle.address.specs.Choice.{if_then_else_}
 use Rattle.address.specs.Bits.{Bit, O, I, bits, number, longest}
-use Rattle.octets.specs.Octets.{Effect, refuseWriting, write, same}
+use Rattle.octets.specs.Octets.{WriteEffect, refuseWriting, write, same}
 use Rattle.route.specs.Path.{path, hops}
 
 -- ASCII
@@ -64,13 +64,13 @@ asked input =
 
 -- ---- writing the answer
 
-unfoldable pub digit : Bit → ℕ
-digit O = digitZero
-digit I = digitOne
+unfoldable pub digitText : Bit → ℕ
+digitText O = digitZero
+digitText I = digitOne
 
 -- an address in binary digits
 unfoldable pub addressText : ℕ → List ℕ
-addressText a = map digit (bits a)
+addressText a = map digitText (bits a)
 
 -- a number below 1000 in decimal digits
 unfoldable pub decimal : ℕ → List ℕ
@@ -104,7 +104,7 @@ unfoldable pub outputText : List ℕ → List ℕ
 outputText input = textFor (asked input)
 
 -- What the function comes to: the text goes to the front of the lent output, which must have room for it (10).
-unfoldable pub reply : List ℕ → List ℕ → Effect
+unfoldable pub reply : List ℕ → List ℕ → WriteEffect
 reply input out =
     if ltb (length out) (length (outputText input)) then refuseWriting 10 out
     else write (outputText input) out

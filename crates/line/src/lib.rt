@@ -9,7 +9,7 @@ ghost use Prim.Native.Nat.{_<_};
 ghost use lib.ListN.{length};
 ghost use lib.Dec.{ltb};
 ghost use Rattle.address.specs.Choice.{if_then_else_};
-ghost use Rattle.octets.specs.Octets.{Effect, refuseWriting, write};
+ghost use Rattle.octets.specs.Octets.{WriteEffect, refuseWriting, write};
 ghost use Rattle.route.specs.Path.{path};
 ghost use Rattle.line.specs.Line.{refusedText, pathText, reply};
 
@@ -21,7 +21,7 @@ pub const ROOM: usize = 8200;
 
 // Writes "refused 11" and a newline.
 fn refuse(out: &mut [u8]) -> Written
-    ensures { λ r. ⌜ _≡_ {A = Effect} (record { answer = r; buffer = now (out .exit) }) (if ltb (length (now (out .entry))) (length refusedText) then refuseWriting 10 (now (out .entry)) else write refusedText (now (out .entry))) ⌝ }
+    ensures { λ r. ⌜ _≡_ {A = WriteEffect} (record { answer = r; buffer = now (out .exit) }) (if ltb (length (now (out .entry))) (length refusedText) then refuseWriting 10 (now (out .entry)) else write refusedText (now (out .entry))) ⌝ }
 {
     if out.len() < 11 {
         return Written {
@@ -36,7 +36,7 @@ fn refuse(out: &mut [u8]) -> Written
 // Writes the hops and the addresses of the path between two addresses.
 fn report(first: u64, second: u64, out: &mut [u8]) -> Written
     requires { ⌜ (0 < first) × (0 < second) ⌝ }
-    ensures { λ r. ⌜ _≡_ {A = Effect} (record { answer = r; buffer = now (out .exit) }) (if ltb (length (now (out .entry))) (length (pathText (path first second))) then refuseWriting 10 (now (out .entry)) else write (pathText (path first second)) (now (out .entry))) ⌝ }
+    ensures { λ r. ⌜ _≡_ {A = WriteEffect} (record { answer = r; buffer = now (out .exit) }) (if ltb (length (now (out .entry))) (length (pathText (path first second))) then refuseWriting 10 (now (out .entry)) else write (pathText (path first second)) (now (out .entry))) ⌝ }
 {
     let mut words = [0u64; 126];
     let listed = route::path(Address::of(first), Address::of(second), &mut words);

@@ -14,12 +14,12 @@ use Rattle.address.specs.Bits.{digit, number, longest}
 use Rattle.address.specs.Steps.{child, stepBits, lastOf}
 use Rattle.address.specs.declared.Kind.{Kind}
 use Rattle.address.specs.Address.{bitLength, isHost}
-use Rattle.address.specs.Reading.{IsAddress}
+use Rattle.address.specs.Numbers.{IsAddress}
 use Rattle.address.specs.declared.Address.{Address}
 use Rattle.address.proofs.Numbers.{lt-bitLength}
 use Rattle.address.proofs.Steps.{addressOf-steps, addressOf-child}
 use Rattle.address.proofs.Ancestors.{number-child}
-use Rattle.node.specs.Node.{Node, addressIn, addressAt, count, raised, isGood, childBits, refuse, childOf}
+use Rattle.node.specs.Node.{Node, addressIn, addressAt, count, raised, isGood, childBits, refuseChild, childOf}
 
 -- the children of each kind that a node has room for
 abbrev pub room : Node → ℕ
@@ -61,17 +61,17 @@ module _ (n : Node) (kind : Kind) where
   number-childBits a =
       number-child a (child kind (count kind n)) ∙ addressOf-child kind (count kind n) _ ∙ rw (addressOf-steps a)
 
-  pub childOf-bad : isGood n ≡ false → childOf n kind ≡ refuse 1 n
+  pub childOf-bad : isGood n ≡ false → childOf n kind ≡ refuseChild 1 n
   unfolding childOf
   childOf-bad g = rw g
 
   module _ (good : isGood n ≡ true) where
-    pub childOf-host : isHost (addressIn n) ≡ true → childOf n kind ≡ refuse 2 n
+    pub childOf-host : isHost (addressIn n) ≡ true → childOf n kind ≡ refuseChild 2 n
     unfolding childOf
     childOf-host h = rw (good, h)
 
     module _ (inner : isHost (addressIn n) ≡ false) where
-      pub childOf-long : longest < bitLength (addressIn n) + count kind n + 1 → childOf n kind ≡ refuse 3 n
+      pub childOf-long : longest < bitLength (addressIn n) + count kind n + 1 → childOf n kind ≡ refuseChild 3 n
       unfolding childOf
       childOf-long l = rw (good, inner, length-childBits, lt-ltb longest (bitLength (addressIn n) + count kind n + 1) l)
 

@@ -12,12 +12,12 @@ use borrow.Author.Tests.{eqb-true, leb-true, ltb-true, ltb-false, ne-eqb, le-leb
 use Rattle.address.specs.Bits.{number, longest}
 use Rattle.address.specs.Steps.{child, steps, addressOf, spelled}
 use Rattle.address.specs.Address.{bitLength, isHost, parent}
-use Rattle.address.specs.Reading.{IsAddress}
+use Rattle.address.specs.Numbers.{IsAddress}
 use Rattle.address.specs.declared.Kind.{Kind}
 use Rattle.address.specs.declared.Kind.the-variants.{Router, Host}
 use Rattle.address.proofs.Steps.{spelled-steps, addressOf-steps, length-spelled, address-addressOf, steps-addressOf, parent-addressOf}
 use Rattle.address.proofs.Ancestors.{number-child, routers-steps}
-use Rattle.node.specs.Node.{Node, Given, addressIn, addressAt, fresh, count, raised, isGood, childBits, refuse, childOf}
+use Rattle.node.specs.Node.{Node, Given, addressIn, addressAt, fresh, count, raised, isGood, childBits, refuseChild, childOf}
 use Rattle.node.proofs.ChildLaws.{room, some-good, isGood-host, isGood-hosts, length-childBits, childOf-bad, childOf-host, childOf-long, childOf-done}
 
 -- records
@@ -102,11 +102,11 @@ pub record MayGive (n : Node) (kind : Kind) : Type 0 where
   pub short : length (childBits n kind) ≤ longest
 
 -- a request is answered with a child or refused
-pub childOf-cases : (n : Node) (kind : Kind) → MayGive n kind ⊎ ((number : ℕ) × (childOf n kind ≡ refuse (suc number) n))
+pub childOf-cases : (n : Node) (kind : Kind) → MayGive n kind ⊎ ((number : ℕ) × (childOf n kind ≡ refuseChild (suc number) n))
 childOf-cases n kind = go (isGood n) (isHost (addressIn n)) (ltb longest (length (childBits n kind))) refl refl refl
   where
     go : (g h l : Bool) → isGood n ≡ g → isHost (addressIn n) ≡ h → ltb longest (length (childBits n kind)) ≡ l
-        → MayGive n kind ⊎ ((number : ℕ) × (childOf n kind ≡ refuse (suc number) n))
+        → MayGive n kind ⊎ ((number : ℕ) × (childOf n kind ≡ refuseChild (suc number) n))
     go false h l eg eh el = inr (0, childOf-bad n kind eg)
     go true true l eg eh el = inr (1, childOf-host n kind eg eh)
     go true false true eg eh el =
@@ -115,7 +115,7 @@ childOf-cases n kind = go (isGood n) (isHost (addressIn n)) (ltb longest (length
         inl (record { good = eg; inner = eh; short = ltb-false longest (length (childBits n kind)) el })
 
 pub mayGive : (n : Node) (kind : Kind) → childOf n kind .refusal ≡ 0 → MayGive n kind
-unfolding refuse
+unfolding refuseChild
 mayGive n kind e = ⊎-elim (λ m. m) (λ r. absurd (omega (arith, ap (λ (g : Given). g .refusal) (r .1)))) (childOf-cases n kind)
 
 module _ {n : Node} {kind : Kind} (may : MayGive n kind) where

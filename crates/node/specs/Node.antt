@@ -53,14 +53,14 @@ unfoldable pub childBits : Node → Kind → List Bit
 childBits n kind = bits (addressIn n) ++ stepBits (child kind (count kind n))
 
 -- "With any refusal the address .. and every other number returned beside its own are 0, a returned record is the one handed in"
-unfoldable pub refuse : ℕ → Node → Given
-refuse number n = record { node = n; child = addressAt 0; refusal = number }
+unfoldable pub refuseChild : ℕ → Node → Given
+refuseChild number n = record { node = n; child = addressAt 0; refusal = number }
 
 -- "Asked for a child, the node hands itself back with one count raised and the child's address". The order is 1, 2, 3: the record is bad; a
 -- host is asked; the child would be longer than 64 bits.
 unfoldable pub childOf : Node → Kind → Given
 childOf n kind =
-    if not (isGood n) then refuse 1 n
-    else if isHost (addressIn n) then refuse 2 n
-    else if ltb longest (length (childBits n kind)) then refuse 3 n
+    if not (isGood n) then refuseChild 1 n
+    else if isHost (addressIn n) then refuseChild 2 n
+    else if ltb longest (length (childBits n kind)) then refuseChild 3 n
     else record { node = raised kind n; child = addressAt (number (childBits n kind)); refusal = 0 }

@@ -6,7 +6,7 @@ ghost use mathlib.Core.Path.{_≡_};
 ghost use Prim.Native.Nat.{_<_};
 ghost use Rattle.address.specs.Bits.{digit};
 ghost use Rattle.address.specs.Steps.{lastOf};
-ghost use Rattle.node.specs.Node.{fresh, count, raised, isGood, refuse, childOf};
+ghost use Rattle.node.specs.Node.{fresh, count, raised, isGood, refuseChild, childOf};
 
 // Refusals: "the node record is bad", "a host is asked for a child", "the child would be longer than 64 bits".
 pub const BAD_RECORD: u8 = 1;
@@ -103,7 +103,7 @@ impl Node {
 
     // The record as it came, and no child.
     fn refuse(self, number: u8) -> Given
-        ensures { λ r. ⌜ r ≡ refuse number self ⌝ }
+        ensures { λ r. ⌜ r ≡ refuseChild number self ⌝ }
     {
         Given {
             node: self,

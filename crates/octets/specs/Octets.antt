@@ -33,7 +33,7 @@ same (x ∷ xs) [] = false
 same (x ∷ xs) (y ∷ ys) = eqb x y && same xs ys
 
 -- What writing into a lent buffer comes to: the answer, and what the buffer holds at the end.
-pub record Effect : Type 0 where
+pub record WriteEffect : Type 0 where
   pub answer : Written
   pub buffer : List ℕ
 
@@ -42,9 +42,9 @@ abbrev pub wrote : ℕ → Written
 wrote k = record { refusal = 0; count = k }
 
 -- "no byte or word lent is changed", and the number of octets written is 0
-unfoldable pub refuseWriting : ℕ → List ℕ → Effect
+unfoldable pub refuseWriting : ℕ → List ℕ → WriteEffect
 refuseWriting n buffer = record { answer = record { refusal = n; count = 0 }; buffer = buffer }
 
 -- some octets in front, and behind them the buffer as it was: "On success only the words or octets named are written."
-unfoldable pub write : List ℕ → List ℕ → Effect
+unfoldable pub write : List ℕ → List ℕ → WriteEffect
 write os buffer = record { answer = wrote (length os); buffer = os ++ drop (length os) buffer }

@@ -4,25 +4,25 @@ use mathlib.Core.Bool.{true, false}
 use mathlib.Core.List.{List}
 use Prim.Native.Nat.{ℕ}
 use borrow.Author.Tests.{eq-eqb, ne-eqb}
-use Rattle.header.specs.Header.{Answer, reading, found, refused as refused-reading}
+use Rattle.header.specs.Header.{HeaderAnswer, reading, found, refusedHeader}
 use Rattle.header.proofs.Cases.{reading-refused}
 use Rattle.node.specs.Node.{isGood}
 use Rattle.node.specs.declared.Node.{Node}
-use Rattle.forward.specs.Forward.{refused, nextHop}
+use Rattle.forward.specs.Forward.{refusedHop, nextHop}
 use Rattle.packet.specs.Packet.{packetHop}
 
 module _ (n : Node) (p : List ℕ) where
-  pub packetHop-bad : isGood n ≡ false → packetHop n p ≡ refused 1
+  pub packetHop-bad : isGood n ≡ false → packetHop n p ≡ refusedHop 1
   unfolding packetHop
   packetHop-bad g = rw g
 
-  pub packetHop-refused : isGood n ≡ true → {k : ℕ} → reading p ≡ refused-reading k → packetHop n p ≡ refused k
+  pub packetHop-refused : isGood n ≡ true → {k : ℕ} → reading p ≡ refusedHeader k → packetHop n p ≡ refusedHop k
   unfolding packetHop
   packetHop-refused g e =
-      let number = ap (λ (x : Answer). x .refusal) e in
-      rw (g, ne-eqb (reading p .refusal) 0 (λ z. reading-refused p e (sym number ∙ z))) (ap refused number)
+      let number = ap (λ (x : HeaderAnswer). x .refusal) e in
+      rw (g, ne-eqb (reading p .refusal) 0 (λ z. reading-refused p e (sym number ∙ z))) (ap refusedHop number)
 
   pub packetHop-found : isGood n ≡ true → {d k : ℕ} → reading p ≡ found d k → packetHop n p ≡ nextHop n d
   unfolding packetHop
   packetHop-found g e =
-      rw (g, eq-eqb (reading p .refusal) 0 (ap (λ (x : Answer). x .refusal) e)) (ap (λ (x : Answer). nextHop n (x .address)) e)
+      rw (g, eq-eqb (reading p .refusal) 0 (ap (λ (x : HeaderAnswer). x .refusal) e)) (ap (λ (x : HeaderAnswer). nextHop n (x .address)) e)

@@ -6,11 +6,11 @@ use contract.Lifetimes.{Lfts}
 use denote.Ref.{RefT, now}
 use Rattle.node.specs.declared.Node.{Node}
 use Rattle.forward.specs.declared.Hop.{Hop}
-use Rattle.forward.specs.Forward.{answer}
+use Rattle.forward.specs.Forward.{hopAnswer}
 use Rattle.packet.specs.Packet.{packetHop}
 use Rattle.packet.proofs.next_hop.Reads as next-hop-reads
 
 pub next-hop-promise : (κs : Lfts 1) (n : Node) (packet : RefT (List ℕ)) (r : Hop)
     → next-hop-reads.Learnt κs (n, (packet, tt)) r (n, (packet, tt))
-    → answer r ≡ packetHop n (now packet)
+    → hopAnswer r ≡ packetHop n (now packet)
 next-hop-promise κs n packet r h = h

@@ -8,10 +8,10 @@ use Rattle.address.specs.Choice.{if_then_else_}
 use Rattle.header.specs.Header.{reading}
 use Rattle.node.specs.Node.{isGood}
 use Rattle.node.specs.declared.Node.{Node}
-use Rattle.forward.specs.Forward.{Answer, refused, nextHop}
+use Rattle.forward.specs.Forward.{HopAnswer, refusedHop, nextHop}
 
-unfoldable pub packetHop : Node → List ℕ → Answer
+unfoldable pub packetHop : Node → List ℕ → HopAnswer
 packetHop n p =
-    if not (isGood n) then refused 1
-    else if not (eqb (reading p .refusal) 0) then refused (reading p .refusal)
+    if not (isGood n) then refusedHop 1
+    else if not (eqb (reading p .refusal) 0) then refusedHop (reading p .refusal)
     else nextHop n (reading p .address)

@@ -8,26 +8,26 @@ use denote.Ref.{RefT, now}
 use Rattle.address.specs.declared.Kind.the-variants.{Router, Host}
 use Rattle.node.specs.Node.{fresh, childOf}
 use Rattle.header.specs.Header.{writing, reading}
-use Rattle.ipv6.specs.Form.{writing as formWriting, reading as formReading}
+use Rattle.ipv6.specs.Form.{formWriting, formReading}
 use Rattle.forward.specs.Forward.{nextHop}
 use Rattle.packet.specs.Packet.{packetHop}
 use Rattle.route.specs.Path.{listing}
-use Rattle.pasa.specs.declared.bytes.WriteAnswer.{WriteAnswer}
-use Rattle.pasa.specs.declared.bytes.ReadAnswer.{ReadAnswer}
-use Rattle.pasa.specs.declared.bytes.FormAnswer.{FormAnswer}
-use Rattle.pasa.specs.declared.paths.PathAnswer.{PathAnswer}
-use Rattle.pasa.specs.Children.{NodeRecord, ChildAnswer, nodeOf, recordOf, childAnswer}
-use Rattle.batch.specs.declared.HopAnswer.{HopAnswer}
-use Rattle.batch.specs.Hops.{hopAnswer}
-use Rattle.batch.specs.Batch.{Effect, hopsOf}
-use Rattle.pasa.specs.Bytes.{writeAnswer, readAnswer, formAnswer}
-use Rattle.pasa.specs.Paths.{pathAnswer}
+use Rattle.pasa.specs.declared.bytes.PasaWritten.{PasaWritten}
+use Rattle.pasa.specs.declared.bytes.PasaRead.{PasaRead}
+use Rattle.pasa.specs.declared.bytes.PasaAddress.{PasaAddress}
+use Rattle.pasa.specs.declared.paths.PasaListed.{PasaListed}
+use Rattle.pasa.specs.Children.{PasaNode, PasaChild, nodeOf, pasaNode, pasaChild}
+use Rattle.batch.specs.declared.PasaHop.{PasaHop}
+use Rattle.batch.specs.Exported.{pasaHop}
+use Rattle.batch.specs.Batch.{BatchEffect, nextHops}
+use Rattle.pasa.specs.Bytes.{pasaWritten, pasaRead, pasaAddress}
+use Rattle.pasa.specs.Paths.{pasaListed}
 use Rattle.pasa.proofs.children.pasa_fresh.Reads as fresh-reads
 use Rattle.pasa.proofs.children.pasa_child_router.Reads as child-router-reads
 use Rattle.pasa.proofs.children.pasa_child_host.Reads as child-host-reads
-use Rattle.pasa.proofs.hops.pasa_next_hop.Reads as next-hop-reads
-use Rattle.pasa.proofs.hops.pasa_packet_next_hop.Reads as packet-next-hop-reads
-use Rattle.pasa.proofs.hops.pasa_next_hops.Reads as next-hops-reads
+use Rattle.pasa.proofs.forwarding.pasa_next_hop.Reads as next-hop-reads
+use Rattle.pasa.proofs.forwarding.pasa_packet_next_hop.Reads as packet-next-hop-reads
+use Rattle.pasa.proofs.forwarding.pasa_next_hops.Reads as next-hops-reads
 use Rattle.pasa.proofs.bytes.pasa_header_write.Reads as header-write-reads
 use Rattle.pasa.proofs.bytes.pasa_header_read.Reads as header-read-reads
 use Rattle.pasa.proofs.bytes.pasa_ipv6_write.Reads as ipv6-write-reads
@@ -38,50 +38,50 @@ use Rattle.pasa.proofs.paths.pasa_path.Reads as path-reads
 abbrev Slice : Type 0
 Slice = RefT (List ℕ)
 
-pub fresh-promise : (a : ℕ) (r : NodeRecord) → fresh-reads.Learnt tt (a, tt) r (a, tt) → r ≡ recordOf (fresh a)
+pub fresh-promise : (a : ℕ) (r : PasaNode) → fresh-reads.Learnt tt (a, tt) r (a, tt) → r ≡ pasaNode (fresh a)
 fresh-promise a r h = h
 
-pub child-router-promise : (n : NodeRecord) (r : ChildAnswer) → child-router-reads.Learnt tt (n, tt) r (n, tt) → r ≡ childAnswer (childOf (nodeOf n) Router)
+pub child-router-promise : (n : PasaNode) (r : PasaChild) → child-router-reads.Learnt tt (n, tt) r (n, tt) → r ≡ pasaChild (childOf (nodeOf n) Router)
 child-router-promise n r h = h
 
-pub child-host-promise : (n : NodeRecord) (r : ChildAnswer) → child-host-reads.Learnt tt (n, tt) r (n, tt) → r ≡ childAnswer (childOf (nodeOf n) Host)
+pub child-host-promise : (n : PasaNode) (r : PasaChild) → child-host-reads.Learnt tt (n, tt) r (n, tt) → r ≡ pasaChild (childOf (nodeOf n) Host)
 child-host-promise n r h = h
 
-pub next-hop-promise : (n : NodeRecord) (d : ℕ) (r : HopAnswer) → next-hop-reads.Learnt tt (n, (d, tt)) r (n, (d, tt)) → r ≡ hopAnswer (nextHop (nodeOf n) d)
+pub next-hop-promise : (n : PasaNode) (d : ℕ) (r : PasaHop) → next-hop-reads.Learnt tt (n, (d, tt)) r (n, (d, tt)) → r ≡ pasaHop (nextHop (nodeOf n) d)
 next-hop-promise n d r h = h
 
-pub packet-next-hop-promise : (κs : Lfts 1) (n : NodeRecord) (packet : Slice) (r : HopAnswer)
+pub packet-next-hop-promise : (κs : Lfts 1) (n : PasaNode) (packet : Slice) (r : PasaHop)
     → packet-next-hop-reads.Learnt κs (n, (packet, tt)) r (n, (packet, tt))
-    → r ≡ hopAnswer (packetHop (nodeOf n) (now packet))
+    → r ≡ pasaHop (packetHop (nodeOf n) (now packet))
 packet-next-hop-promise κs n packet r h = h
 
-pub next-hops-promise : (κs : Lfts 4) (n : NodeRecord) (ds nodes actions refusals nodes′ actions′ refusals′ : Slice) (r : ℕ)
+pub next-hops-promise : (κs : Lfts 4) (n : PasaNode) (ds nodes actions refusals nodes′ actions′ refusals′ : Slice) (r : ℕ)
     → next-hops-reads.Learnt κs (n, (ds, (nodes, (actions, (refusals, tt))))) r (n, (ds, (nodes′, (actions′, (refusals′, tt)))))
-    → _≡_ {A = Effect} record { count = r; nodes = now nodes′; actions = now actions′; refusals = now refusals′ }
-    (hopsOf (nodeOf n) (now ds) (now nodes) (now actions) (now refusals))
+    → _≡_ {A = BatchEffect} record { count = r; nodes = now nodes′; actions = now actions′; refusals = now refusals′ }
+    (nextHops (nodeOf n) (now ds) (now nodes) (now actions) (now refusals))
 next-hops-promise κs n ds nodes actions refusals nodes′ actions′ refusals′ r h = h
 
-pub header-write-promise : (κs : Lfts 1) (a : ℕ) (out last : Slice) (r : WriteAnswer)
+pub header-write-promise : (κs : Lfts 1) (a : ℕ) (out last : Slice) (r : PasaWritten)
     → header-write-reads.Learnt κs (a, (out, tt)) r (a, (last, tt))
-    → (r ≡ writeAnswer (writing a (now out) .answer)) × (now last ≡ writing a (now out) .buffer)
+    → (r ≡ pasaWritten (writing a (now out) .answer)) × (now last ≡ writing a (now out) .buffer)
 header-write-promise κs a out last r h = h
 
-pub header-read-promise : (κs : Lfts 1) (packet : Slice) (r : ReadAnswer)
+pub header-read-promise : (κs : Lfts 1) (packet : Slice) (r : PasaRead)
     → header-read-reads.Learnt κs (packet, tt) r (packet, tt)
-    → r ≡ readAnswer (reading (now packet))
+    → r ≡ pasaRead (reading (now packet))
 header-read-promise κs packet r h = h
 
-pub ipv6-write-promise : (κs : Lfts 2) (prefix : Slice) (a : ℕ) (out last : Slice) (r : WriteAnswer)
+pub ipv6-write-promise : (κs : Lfts 2) (prefix : Slice) (a : ℕ) (out last : Slice) (r : PasaWritten)
     → ipv6-write-reads.Learnt κs (prefix, (a, (out, tt))) r (prefix, (a, (last, tt)))
-    → (r ≡ writeAnswer (formWriting (now prefix) a (now out) .answer)) × (now last ≡ formWriting (now prefix) a (now out) .buffer)
+    → (r ≡ pasaWritten (formWriting (now prefix) a (now out) .answer)) × (now last ≡ formWriting (now prefix) a (now out) .buffer)
 ipv6-write-promise κs prefix a out last r h = h
 
-pub ipv6-read-promise : (κs : Lfts 2) (prefix ipv6 : Slice) (r : FormAnswer)
+pub ipv6-read-promise : (κs : Lfts 2) (prefix ipv6 : Slice) (r : PasaAddress)
     → ipv6-read-reads.Learnt κs (prefix, (ipv6, tt)) r (prefix, (ipv6, tt))
-    → r ≡ formAnswer (formReading (now prefix) (now ipv6))
+    → r ≡ pasaAddress (formReading (now prefix) (now ipv6))
 ipv6-read-promise κs prefix ipv6 r h = h
 
-pub path-promise : (κs : Lfts 1) (a d : ℕ) (words last : Slice) (r : PathAnswer)
+pub path-promise : (κs : Lfts 1) (a d : ℕ) (words last : Slice) (r : PasaListed)
     → path-reads.Learnt κs (a, (d, (words, tt))) r (a, (d, (last, tt)))
-    → (r ≡ pathAnswer (listing a d (now words) .answer)) × (now last ≡ listing a d (now words) .words)
+    → (r ≡ pasaListed (listing a d (now words) .answer)) × (now last ≡ listing a d (now words) .words)
 path-promise κs a d words last r h = h

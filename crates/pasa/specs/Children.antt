@@ -2,16 +2,16 @@
 use Rattle.node.specs.Node.{addressAt}
 use Rattle.node.specs.declared.Node.{Node}
 use Rattle.node.specs.declared.Given.{Given}
-pub use Rattle.pasa.specs.declared.children.NodeRecord.{NodeRecord}
-pub use Rattle.pasa.specs.declared.children.ChildAnswer.{ChildAnswer}
+pub use Rattle.pasa.specs.declared.children.PasaNode.{PasaNode}
+pub use Rattle.pasa.specs.declared.children.PasaChild.{PasaChild}
 
 -- the node whose record is given
-unfoldable pub nodeOf : NodeRecord → Node
+unfoldable pub nodeOf : PasaNode → Node
 nodeOf r = record { address = addressAt (r .address); routers = r .routers; hosts = r .hosts }
 
 -- the record of a node
-unfoldable pub recordOf : Node → NodeRecord
-recordOf n = record { address = n .address .number; routers = n .routers; hosts = n .hosts }
+unfoldable pub pasaNode : Node → PasaNode
+pasaNode n = record { address = n .address .number; routers = n .routers; hosts = n .hosts }
 
-unfoldable pub childAnswer : Given → ChildAnswer
-childAnswer g = record { node = recordOf (g .node); child = g .child .number; refusal = g .refusal }
+unfoldable pub pasaChild : Given → PasaChild
+pasaChild g = record { node = pasaNode (g .node); child = g .child .number; refusal = g .refusal }

@@ -5,19 +5,19 @@ use header::Reading;
 use octets::Written;
 ghost use mathlib.Core.Path.{_≡_};
 ghost use Rattle.header.specs.Header.{writing, reading};
-ghost use Rattle.ipv6.specs.Form.{writing as formWriting, reading as formReading};
-ghost use Rattle.pasa.specs.Bytes.{writeAnswer, readAnswer, formAnswer};
+ghost use Rattle.ipv6.specs.Form.{formWriting, formReading};
+ghost use Rattle.pasa.specs.Bytes.{pasaWritten, pasaRead, pasaAddress};
 
 // What writing into a lent buffer answers: how many octets were written, 0 in a refusal, and the refusal's number, 0 where it is done.
 #[repr(C)]
-pub struct WriteAnswer {
+pub struct PasaWritten {
     pub count: usize,
     pub refusal: u8,
 }
 
 // What reading a header answers: the address, the place where the payload begins, both 0 in a refusal, and the refusal's number.
 #[repr(C)]
-pub struct ReadAnswer {
+pub struct PasaRead {
     pub address: u64,
     pub place: usize,
     pub refusal: u8,
@@ -25,15 +25,15 @@ pub struct ReadAnswer {
 
 // What reading an IPv6 form answers: the address, 0 in a refusal, and the refusal's number.
 #[repr(C)]
-pub struct FormAnswer {
+pub struct PasaAddress {
     pub address: u64,
     pub refusal: u8,
 }
 
-fn write_answer(written: Written) -> WriteAnswer
-    ensures { λ r. ⌜ r ≡ writeAnswer written ⌝ }
+fn pasa_written(written: Written) -> PasaWritten
+    ensures { λ r. ⌜ r ≡ pasaWritten written ⌝ }
 {
-    WriteAnswer {
+    PasaWritten {
         count: written.count,
         refusal: written.refusal,
     }
@@ -41,24 +41,24 @@ fn write_answer(written: Written) -> WriteAnswer
 
 // Writes the address's header to the front of the lent buffer.
 #[no_mangle]
-pub extern "C" fn pasa_header_write(address: u64, out: &mut [u8]) -> WriteAnswer
-    ensures { λ r. ⌜ (r ≡ writeAnswer (writing address (now (out .entry)) .answer)) × (now (out .exit) ≡ writing address (now (out .entry)) .buffer) ⌝ }
+pub extern "C" fn pasa_header_write(address: u64, out: &mut [u8]) -> PasaWritten
+    ensures { λ r. ⌜ (r ≡ pasaWritten (writing address (now (out .entry)) .answer)) × (now (out .exit) ≡ writing address (now (out .entry)) .buffer) ⌝ }
 {
-    write_answer(header::write(Address::of(address), out))
+    pasa_written(header::write(Address::of(address), out))
 }
 
 // Reads the header at the front of a packet.
 #[no_mangle]
-pub extern "C" fn pasa_header_read(packet: &[u8]) -> ReadAnswer
-    ensures { λ r. ⌜ r ≡ readAnswer (reading (now (packet .entry))) ⌝ }
+pub extern "C" fn pasa_header_read(packet: &[u8]) -> PasaRead
+    ensures { λ r. ⌜ r ≡ pasaRead (reading (now (packet .entry))) ⌝ }
 {
     match header::read(packet) {
-        Reading::Found(address, place) => ReadAnswer {
+        Reading::Found(address, place) => PasaRead {
             address: address.number,
             place,
             refusal: 0,
         },
-        Reading::Refused(number) => ReadAnswer {
+        Reading::Refused(number) => PasaRead {
             address: 0,
             place: 0,
             refusal: number,
@@ -68,23 +68,23 @@ pub extern "C" fn pasa_header_read(packet: &[u8]) -> ReadAnswer
 
 // Writes the prefix and the address behind it to the front of the lent buffer.
 #[no_mangle]
-pub extern "C" fn pasa_ipv6_write(prefix: &[u8], address: u64, out: &mut [u8]) -> WriteAnswer
-    ensures { λ r. ⌜ (r ≡ writeAnswer (formWriting (now (prefix .entry)) address (now (out .entry)) .answer)) × (now (out .exit) ≡ formWriting (now (prefix .entry)) address (now (out .entry)) .buffer) ⌝ }
+pub extern "C" fn pasa_ipv6_write(prefix: &[u8], address: u64, out: &mut [u8]) -> PasaWritten
+    ensures { λ r. ⌜ (r ≡ pasaWritten (formWriting (now (prefix .entry)) address (now (out .entry)) .answer)) × (now (out .exit) ≡ formWriting (now (prefix .entry)) address (now (out .entry)) .buffer) ⌝ }
 {
-    write_answer(ipv6::write(prefix, Address::of(address), out))
+    pasa_written(ipv6::write(prefix, Address::of(address), out))
 }
 
 // Reads an IPv6 address that begins with the prefix.
 #[no_mangle]
-pub extern "C" fn pasa_ipv6_read(prefix: &[u8], ipv6: &[u8]) -> FormAnswer
-    ensures { λ r. ⌜ r ≡ formAnswer (formReading (now (prefix .entry)) (now (ipv6 .entry))) ⌝ }
+pub extern "C" fn pasa_ipv6_read(prefix: &[u8], ipv6: &[u8]) -> PasaAddress
+    ensures { λ r. ⌜ r ≡ pasaAddress (formReading (now (prefix .entry)) (now (ipv6 .entry))) ⌝ }
 {
     match ipv6::read(prefix, ipv6) {
-        Made::Valid(address) => FormAnswer {
+        Made::Valid(address) => PasaAddress {
             address: address.number,
             refusal: 0,
         },
-        Made::Refused(number) => FormAnswer {
+        Made::Refused(number) => PasaAddress {
             address: 0,
             refusal: number,
         },

@@ -5,5 +5,5 @@
 // its place is refused as the crates below refuse it.
 pub mod bytes;
 pub mod children;
-pub mod hops;
+pub mod forwarding;
 pub mod paths;

@@ -11,21 +11,22 @@ use lib.ListN.{length, drop, set, getD, length-append}
 use lib.Seq.{take-at, drop-at, drop-drop, drop-cons, set-at}
 use Rattle.address.specs.Steps.{steps, addressOf}
 use Rattle.address.specs.Address.{depth}
-use Rattle.address.specs.Reading.{IsAddress, OnWay}
-use Rattle.route.specs.Path.{turn, path, hops, refuse, listing}
+use Rattle.address.specs.Numbers.{IsAddress}
+use Rattle.address.specs.Ancestors.{AncestorOrSelf}
+use Rattle.route.specs.Path.{turn, path, hops, refusePath, listing}
 use Rattle.route.proofs.PathLaws.{address-turn, turn-first, turn-second, length-path-up, length-path-down, length-path-turn, path-turn}
 
 module _ (a d : ℕ) (words : List ℕ) where
-  pub listing-zero-first : a ≡ 0 → listing a d words ≡ refuse 9 words
+  pub listing-zero-first : a ≡ 0 → listing a d words ≡ refusePath 9 words
   unfolding listing
   listing-zero-first e = rw (eq-eqb a 0 e)
 
-  pub listing-zero-second : (a ≡ 0 → ⊥) → d ≡ 0 → listing a d words ≡ refuse 9 words
+  pub listing-zero-second : (a ≡ 0 → ⊥) → d ≡ 0 → listing a d words ≡ refusePath 9 words
   unfolding listing
   listing-zero-second h e = rw (ne-eqb a 0 h, eq-eqb d 0 e)
 
   module _ (h : a ≡ 0 → ⊥) (l : d ≡ 0 → ⊥) where
-    pub listing-short : length words < length (path a d) → listing a d words ≡ refuse 10 words
+    pub listing-short : length words < length (path a d) → listing a d words ≡ refusePath 10 words
     unfolding listing
     listing-short s = rw (ne-eqb a 0 h, ne-eqb d 0 l, lt-ltb (length words) (length (path a d)) s)
 
@@ -37,8 +38,8 @@ module _ (a d : ℕ) (words : List ℕ) where
 -- The path from a to d over its turning point x: the way up to x, without x, takes `up` words, and all of it, without d, takes `hops`.
 pub record Over (a d x up hops : ℕ) : Type 0 where
   pub point : IsAddress x
-  pub first : OnWay (steps x) (steps a)
-  pub second : OnWay (steps x) (steps d)
+  pub first : AncestorOrSelf (steps x) (steps a)
+  pub second : AncestorOrSelf (steps x) (steps d)
   pub upward : length (path a x) ≡ up + 1
   pub downward : length (path x d) + up ≡ hops + 1
   pub whole : length (path a d) ≡ hops + 1

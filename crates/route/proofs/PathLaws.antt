@@ -12,21 +12,22 @@ use lib.Pow.{pow-pos}
 use Rattle.address.specs.Bits.{longest, root}
 use Rattle.address.specs.Steps.{Step, child, steps, spelled, addressOf}
 use Rattle.address.specs.Address.{depth, parent}
-use Rattle.address.specs.Reading.{IsAddress, OnWay}
+use Rattle.address.specs.Numbers.{IsAddress}
+use Rattle.address.specs.Ancestors.{AncestorOrSelf}
 use Rattle.address.proofs.Numbers.{bitLength-le}
 use Rattle.address.proofs.Steps.{addressOf-steps, addressOf-root, addressOf-child, parent-addressOf, depth-range}
 use Rattle.address.proofs.Ancestors.{routers-above, length-tail, address-tail, steps-tail, steps-injective}
-use Rattle.route.specs.Path.{isOnWay, turn, below, pathOf, path, hops}
-use Rattle.route.proofs.Turning.{onWay-root, onWay-length, onWay-next, isOnWay-true, isOnWay-false, turn-on, turn-on-comm, turn-off, turning-points, pathOf-turn, pathOf-on-comm, pathOf-self, pathOf-up, pathOf-down, pathOf-first, pathOf-last, length-pathOf, length-pathOf-cons, mem-pathOf}
+use Rattle.route.specs.Path.{isAncestorOrSelf, turn, below, pathOf, path, hops}
+use Rattle.route.proofs.Turning.{ancestorOrSelf-root, ancestorOrSelf-length, ancestorOrSelf-next, isAncestorOrSelf-true, isAncestorOrSelf-false, turn-on, turn-on-comm, turn-off, turning-points, pathOf-turn, pathOf-on-comm, pathOf-self, pathOf-up, pathOf-down, pathOf-first, pathOf-last, length-pathOf, length-pathOf-cons, mem-pathOf}
 
 -- an ancestor-or-self, as an address
 
-module _ {d : ℕ} (b : IsAddress d) (x : List Step) (w : OnWay x (steps d)) where
-  pub address-onWay : IsAddress (addressOf x)
-  address-onWay = address-tail b (w .0) x (w .1)
+module _ {d : ℕ} (b : IsAddress d) (x : List Step) (w : AncestorOrSelf x (steps d)) where
+  pub address-ancestorOrSelf : IsAddress (addressOf x)
+  address-ancestorOrSelf = address-tail b (w .0) x (w .1)
 
-  pub steps-onWay : steps (addressOf x) ≡ x
-  steps-onWay = steps-tail b (w .0) x (w .1)
+  pub steps-ancestorOrSelf : steps (addressOf x) ≡ x
+  steps-ancestorOrSelf = steps-tail b (w .0) x (w .1)
 
 -- an ancestor's number is the smaller one
 
@@ -36,11 +37,11 @@ addressOf-le (child k i ∷ dropped) x =
     let n = addressOf (dropped ++ x) in
     omega (arith, addressOf-le dropped x, addressOf-child k i (dropped ++ x), le-mul-of-pos-right n (pow-pos i))
 
-pub le-onWay : {c d : ℕ} → IsAddress c → IsAddress d → OnWay (steps c) (steps d) → c ≤ d
-le-onWay {c} a b (dropped, e) = rw (← e, addressOf-steps a, addressOf-steps b) at (addressOf-le dropped (steps c))
+pub le-ancestorOrSelf : {c d : ℕ} → IsAddress c → IsAddress d → AncestorOrSelf (steps c) (steps d) → c ≤ d
+le-ancestorOrSelf {c} a b (dropped, e) = rw (← e, addressOf-steps a, addressOf-steps b) at (addressOf-le dropped (steps c))
 
-pub off-larger : {a d : ℕ} → IsAddress a → IsAddress d → a < d → OnWay (steps d) (steps a) → ⊥
-off-larger h b l w = omega (arith, le-onWay b h w)
+pub off-larger : {a d : ℕ} → IsAddress a → IsAddress d → a < d → AncestorOrSelf (steps d) (steps a) → ⊥
+off-larger h b l w = omega (arith, le-ancestorOrSelf b h w)
 
 -- the parent of what is not the root
 
@@ -49,12 +50,12 @@ unfolding depth
 depth-steps a = refl
 
 -- the root is on every way
-pub off-root : (a d : ℕ) → (OnWay (steps a) (steps d) → ⊥) → a ≡ root → ⊥
-off-root a d off e = off (onWay-none (steps a) (omega (arith, ap depth e, depth-range .least, depth-steps a)))
+pub off-root : (a d : ℕ) → (AncestorOrSelf (steps a) (steps d) → ⊥) → a ≡ root → ⊥
+off-root a d off e = off (ancestorOrSelf-none (steps a) (omega (arith, ap depth e, depth-range .least, depth-steps a)))
   where
-    onWay-none : (ss : List Step) → length ss ≡ 0 → OnWay ss (steps d)
-    onWay-none [] z = onWay-root (steps d)
-    onWay-none (s ∷ ss) z = absurd (omega arith)
+    ancestorOrSelf-none : (ss : List Step) → length ss ≡ 0 → AncestorOrSelf ss (steps d)
+    ancestorOrSelf-none [] z = ancestorOrSelf-root (steps d)
+    ancestorOrSelf-none (s ∷ ss) z = absurd (omega arith)
 
 module _ {a : ℕ} (h : IsAddress a) (below : a ≡ root → ⊥) where
   has-parent : (s : Step) × (up : List Step) × (steps a ≡ s ∷ up) × (parent a ≡ addressOf up)
@@ -83,7 +84,7 @@ module _ {a : ℕ} (h : IsAddress a) (below : a ≡ root → ⊥) where
       let (s, e) = steps-parent in rw (length-map, length-map, e) (length-pathOf-cons s (steps (parent a)) (steps d))
 
 -- where one that is no ancestor-or-self of the other goes up, the turning point stays
-pub turn-parent : {a : ℕ} → IsAddress a → (d : ℕ) → (OnWay (steps a) (steps d) → ⊥) → turn (steps (parent a)) (steps d) ≡ turn (steps a) (steps d)
+pub turn-parent : {a : ℕ} → IsAddress a → (d : ℕ) → (AncestorOrSelf (steps a) (steps d) → ⊥) → turn (steps (parent a)) (steps d) ≡ turn (steps a) (steps d)
 turn-parent {a} h d off =
     let (s, e) = steps-parent h (off-root a d off) in
     sym (ap (λ (ss : List Step). turn ss (steps d)) e ∙ turn-off s (steps (parent a)) (steps d) (rw e at off))
@@ -95,7 +96,7 @@ unfolding path
 path-self {a} h = rw (pathOf-self (steps a), addressOf-steps h)
 
 -- up from what is no ancestor-or-self of the other, and so not the root
-pub path-up : {a : ℕ} → IsAddress a → (d : ℕ) → (OnWay (steps a) (steps d) → ⊥) → path a d ≡ a ∷ path (parent a) d
+pub path-up : {a : ℕ} → IsAddress a → (d : ℕ) → (AncestorOrSelf (steps a) (steps d) → ⊥) → path a d ≡ a ∷ path (parent a) d
 unfolding path
 path-up {a} h d off =
     let (s, e) = steps-parent h (off-root a d off) in
@@ -105,7 +106,7 @@ pub path-down : {x d : ℕ} → IsAddress x → IsAddress d → (more : List Ste
     → path x d ≡ x ∷ path (addressOf (s ∷ steps x)) d
 unfolding path
 path-down {x} {d} h b more s e =
-    rw (steps-onWay b (s ∷ steps x) (more, e), e, pathOf-down more s (steps x), addressOf-steps h)
+    rw (steps-ancestorOrSelf b (s ∷ steps x) (more, e), e, pathOf-down more s (steps x), addressOf-steps h)
 
 pub path-first : {a : ℕ} → IsAddress a → (d : ℕ) → (rest : List ℕ) × (path a d ≡ a ∷ rest)
 unfolding path
@@ -141,10 +142,10 @@ pub hops-self : {a : ℕ} → IsAddress a → hops (path a a) ≡ 0
 unfolding hops
 hops-self h = rw (path-self h)
 
-pub length-path-up : (x a : ℕ) → OnWay (steps x) (steps a) → length (path a x) + depth x ≡ depth a + 1
+pub length-path-up : (x a : ℕ) → AncestorOrSelf (steps x) (steps a) → length (path a x) + depth x ≡ depth a + 1
 length-path-up x a w = omega (arith, length-path a x, depth-steps x, ap length (turn-on-comm (steps x) (steps a) w))
 
-pub length-path-down : (x d : ℕ) → OnWay (steps x) (steps d) → length (path x d) + depth x ≡ depth d + 1
+pub length-path-down : (x d : ℕ) → AncestorOrSelf (steps x) (steps d) → length (path x d) + depth x ≡ depth d + 1
 length-path-down x d w = omega (arith, length-path x d, depth-steps x, ap length (turn-on (steps x) (steps d) w))
 
 -- on from an address to the next one on the path
@@ -153,22 +154,22 @@ pub record Next (a b d : ℕ) : Type 0 where
   pub rest : path a d ≡ a ∷ path b d
 
 module _ {a d : ℕ} (h : IsAddress a) (b : IsAddress d) where
-  pub next-up : (OnWay (steps a) (steps d) → ⊥) → Next a (parent a) d
+  pub next-up : (AncestorOrSelf (steps a) (steps d) → ⊥) → Next a (parent a) d
   next-up off = record { address = address-parent h (off-root a d off); rest = path-up h d off }
 
   pub next-down : (more : List Step) (s : Step) → steps d ≡ more ++ (s ∷ steps a) → Next a (addressOf (s ∷ steps a)) d
-  next-down more s e = record { address = address-onWay b (s ∷ steps a) (more, e); rest = path-down h b more s e }
+  next-down more s e = record { address = address-ancestorOrSelf b (s ∷ steps a) (more, e); rest = path-down h b more s e }
 
   pub path-cases : (a ≡ d) ⊎ ((n : ℕ) × Next a n d)
-  path-cases = go (isOnWay (steps a) (steps d)) refl
+  path-cases = go (isAncestorOrSelf (steps a) (steps d)) refl
     where
-      down : (steps a ≡ steps d) ⊎ ((s : Step) × OnWay (s ∷ steps a) (steps d)) → (a ≡ d) ⊎ ((n : ℕ) × Next a n d)
+      down : (steps a ≡ steps d) ⊎ ((s : Step) × AncestorOrSelf (s ∷ steps a) (steps d)) → (a ≡ d) ⊎ ((n : ℕ) × Next a n d)
       down (inl e) = inl (steps-injective h b e)
       down (inr (s, (more, e))) = inr (addressOf (s ∷ steps a), next-down more s e)
 
-      go : (on : Bool) → isOnWay (steps a) (steps d) ≡ on → (a ≡ d) ⊎ ((n : ℕ) × Next a n d)
-      go true e = down (onWay-next (steps a) (steps d) (isOnWay-true (steps a) (steps d) e))
-      go false e = inr (parent a, next-up (isOnWay-false (steps a) (steps d) e))
+      go : (on : Bool) → isAncestorOrSelf (steps a) (steps d) ≡ on → (a ≡ d) ⊎ ((n : ℕ) × Next a n d)
+      go true e = down (ancestorOrSelf-next (steps a) (steps d) (isAncestorOrSelf-true (steps a) (steps d) e))
+      go false e = inr (parent a, next-up (isAncestorOrSelf-false (steps a) (steps d) e))
 
 -- from any address that it lists the path goes on as the path from there, so it lists none twice
 
@@ -204,22 +205,22 @@ path-once {a} {d} h b us x vs e m = go (mem-split vs m) (path-suffix h b us x vs
 
 module _ {a x : ℕ} (h : IsAddress a) (d : ℕ) (e : x ≡ addressOf (turn (steps a) (steps d))) where
   pub address-turn : IsAddress x
-  address-turn = rw e (address-onWay h (turn (steps a) (steps d)) (turning-points (steps a) (steps d) .ofFirst))
+  address-turn = rw e (address-ancestorOrSelf h (turn (steps a) (steps d)) (turning-points (steps a) (steps d) .ofFirst))
 
   pub steps-turn : steps x ≡ turn (steps a) (steps d)
-  steps-turn = rw e (steps-onWay h (turn (steps a) (steps d)) (turning-points (steps a) (steps d) .ofFirst))
+  steps-turn = rw e (steps-ancestorOrSelf h (turn (steps a) (steps d)) (turning-points (steps a) (steps d) .ofFirst))
 
-  pub turn-first : OnWay (steps x) (steps a)
+  pub turn-first : AncestorOrSelf (steps x) (steps a)
   turn-first = rw steps-turn (turning-points (steps a) (steps d) .ofFirst)
 
-  pub turn-second : OnWay (steps x) (steps d)
+  pub turn-second : AncestorOrSelf (steps x) (steps d)
   turn-second = rw steps-turn (turning-points (steps a) (steps d) .ofSecond)
 
   pub depth-turn-first : depth x ≤ depth a
-  depth-turn-first = omega (arith, depth-steps x, depth-steps a, onWay-length (steps x) (steps a) turn-first)
+  depth-turn-first = omega (arith, depth-steps x, depth-steps a, ancestorOrSelf-length (steps x) (steps a) turn-first)
 
   pub depth-turn-second : depth x ≤ depth d
-  depth-turn-second = omega (arith, depth-steps x, depth-steps d, onWay-length (steps x) (steps d) turn-second)
+  depth-turn-second = omega (arith, depth-steps x, depth-steps d, ancestorOrSelf-length (steps x) (steps d) turn-second)
 
   pub length-path-turn : length (path a d) + 2 * depth x ≡ depth a + depth d + 1
   length-path-turn = omega (arith, length-path a d, depth-steps x, ap length steps-turn)
@@ -234,12 +235,12 @@ module _ {a x : ℕ} (h : IsAddress a) (d : ℕ) (e : x ≡ addressOf (turn (ste
 
 -- every number listed is the address of an ancestor-or-self of one of the ends
 pub mem-path : {a d n : ℕ} → IsAddress a → IsAddress d → List·Memᴰ n (path a d)
-    → IsAddress n × (OnWay (steps n) (steps a) ⊎ OnWay (steps n) (steps d))
+    → IsAddress n × (AncestorOrSelf (steps n) (steps a) ⊎ AncestorOrSelf (steps n) (steps d))
 unfolding path
 mem-path {a} {d} {n} h b m = go (Memᴰ·of-map addressOf (pathOf (steps a) (steps d)) m)
   where
-    one : {c : ℕ} (x : List Step) → IsAddress c → addressOf x ≡ n → OnWay x (steps c) → IsAddress n × OnWay (steps n) (steps c)
-    one x k e w = (rw (← e) (address-onWay k x w), rw (← e, steps-onWay k x w) w)
+    one : {c : ℕ} (x : List Step) → IsAddress c → addressOf x ≡ n → AncestorOrSelf x (steps c) → IsAddress n × AncestorOrSelf (steps n) (steps c)
+    one x k e w = (rw (← e) (address-ancestorOrSelf k x w), rw (← e, steps-ancestorOrSelf k x w) w)
 
-    go : (x : List Step) × List·Memᴰ x (pathOf (steps a) (steps d)) × (addressOf x ≡ n) → IsAddress n × (OnWay (steps n) (steps a) ⊎ OnWay (steps n) (steps d))
+    go : (x : List Step) × List·Memᴰ x (pathOf (steps a) (steps d)) × (addressOf x ≡ n) → IsAddress n × (AncestorOrSelf (steps n) (steps a) ⊎ AncestorOrSelf (steps n) (steps d))
     go (x, m, e) = ⊎-elim (λ w. let r = one x h e w in (r .0, inl (r .1))) (λ w. let r = one x b e w in (r .0, inr (r .1))) (mem-pathOf (steps a) (steps d) x m)

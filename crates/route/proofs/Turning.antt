@@ -1,4 +1,4 @@
--- Turning points and paths, by steps. Whatever is on one way is told apart by its length alone (`onWay-unique`), so the turning point is the
+-- Turning points and paths, by steps. Whatever is on one way is told apart by its length alone (`ancestorOrSelf-unique`), so the turning point is the
 -- only deepest one, from either side; a path then loses its first address with each step up or down. Assumes nothing.
 use mathlib.Core.Path.{_≡_, refl, sym, ap, _∙_}
 use mathlib.Core.Logic.{_⊎_, inl, inr, ⊎-elim}
@@ -14,8 +14,8 @@ use Rattle.address.specs.Choice.{if_then_else_}
 use Rattle.address.specs.Steps.{Step, child}
 use Rattle.address.specs.declared.Kind.{Kind}
 use Rattle.address.specs.declared.Kind.the-variants.{Router as router, Host as host}
-use Rattle.address.specs.Reading.{OnWay}
-use Rattle.route.specs.Path.{sameKind, sameSteps, isOnWay, turn, below, pathOf}
+use Rattle.address.specs.Ancestors.{AncestorOrSelf}
+use Rattle.route.specs.Path.{sameKind, sameSteps, isAncestorOrSelf, turn, below, pathOf}
 use Rattle.route.specs.TurningPoint.{IsTurningPoint, TurningPoints}
 
 -- the same steps
@@ -49,118 +49,118 @@ sameSteps-true (child k i ∷ ss) (child l j ∷ ts) e =
 
 -- on the way
 
-pub onWay-refl : (ss : List Step) → OnWay ss ss
-onWay-refl ss = ([], refl)
+pub ancestorOrSelf-refl : (ss : List Step) → AncestorOrSelf ss ss
+ancestorOrSelf-refl ss = ([], refl)
 
-pub onWay-root : (ts : List Step) → OnWay [] ts
-onWay-root ts = (ts, sym (append-nil ts))
+pub ancestorOrSelf-root : (ts : List Step) → AncestorOrSelf [] ts
+ancestorOrSelf-root ts = (ts, sym (append-nil ts))
 
-pub onWay-cons : (t : Step) (ss ts : List Step) → OnWay ss ts → OnWay ss (t ∷ ts)
-onWay-cons t ss ts (dropped, e) = (t ∷ dropped, ap (λ (l : List Step). t ∷ l) e)
+pub ancestorOrSelf-cons : (t : Step) (ss ts : List Step) → AncestorOrSelf ss ts → AncestorOrSelf ss (t ∷ ts)
+ancestorOrSelf-cons t ss ts (dropped, e) = (t ∷ dropped, ap (λ (l : List Step). t ∷ l) e)
 
-pub onWay-tail : (s : Step) (ss ts : List Step) → OnWay (s ∷ ss) ts → OnWay ss ts
-onWay-tail s ss ts (dropped, e) = (dropped ++ (s ∷ []), e ∙ sym (append-assoc dropped (s ∷ []) ss))
+pub ancestorOrSelf-tail : (s : Step) (ss ts : List Step) → AncestorOrSelf (s ∷ ss) ts → AncestorOrSelf ss ts
+ancestorOrSelf-tail s ss ts (dropped, e) = (dropped ++ (s ∷ []), e ∙ sym (append-assoc dropped (s ∷ []) ss))
 
-pub onWay-length : (ss ts : List Step) → OnWay ss ts → length ss ≤ length ts
-onWay-length ss ts (dropped, e) = omega (arith, ap length e, length-append dropped ss)
+pub ancestorOrSelf-length : (ss ts : List Step) → AncestorOrSelf ss ts → length ss ≤ length ts
+ancestorOrSelf-length ss ts (dropped, e) = omega (arith, ap length e, length-append dropped ss)
 
-pub onWay-cases : (ss : List Step) (t : Step) (ts : List Step) → OnWay ss (t ∷ ts) → (ss ≡ t ∷ ts) ⊎ OnWay ss ts
-onWay-cases ss t ts ([], e) = inl (sym e)
-onWay-cases ss t ts (d ∷ dropped, e) = inr (dropped, cc)
+pub ancestorOrSelf-cases : (ss : List Step) (t : Step) (ts : List Step) → AncestorOrSelf ss (t ∷ ts) → (ss ≡ t ∷ ts) ⊎ AncestorOrSelf ss ts
+ancestorOrSelf-cases ss t ts ([], e) = inl (sym e)
+ancestorOrSelf-cases ss t ts (d ∷ dropped, e) = inr (dropped, cc)
 
 -- the next step down a way, if there is one
-pub onWay-next : (x ts : List Step) → OnWay x ts → (x ≡ ts) ⊎ ((s : Step) × OnWay (s ∷ x) ts)
-onWay-next x ts ([], e) = inl (sym e)
-onWay-next x ts (d ∷ dropped, e) = inr (⊎-elim this further (onWay-next x (dropped ++ x) (dropped, refl)))
+pub ancestorOrSelf-next : (x ts : List Step) → AncestorOrSelf x ts → (x ≡ ts) ⊎ ((s : Step) × AncestorOrSelf (s ∷ x) ts)
+ancestorOrSelf-next x ts ([], e) = inl (sym e)
+ancestorOrSelf-next x ts (d ∷ dropped, e) = inr (⊎-elim this further (ancestorOrSelf-next x (dropped ++ x) (dropped, refl)))
   where
-    this : x ≡ dropped ++ x → (s : Step) × OnWay (s ∷ x) ts
+    this : x ≡ dropped ++ x → (s : Step) × AncestorOrSelf (s ∷ x) ts
     this f = (d, ([], e ∙ ap (λ (l : List Step). d ∷ l) (sym f)))
 
-    further : (s : Step) × OnWay (s ∷ x) (dropped ++ x) → (s : Step) × OnWay (s ∷ x) ts
-    further (s, w) = (s, rw e (onWay-cons d (s ∷ x) (dropped ++ x) w))
+    further : (s : Step) × AncestorOrSelf (s ∷ x) (dropped ++ x) → (s : Step) × AncestorOrSelf (s ∷ x) ts
+    further (s, w) = (s, rw e (ancestorOrSelf-cons d (s ∷ x) (dropped ++ x) w))
 
 -- of two on one way the one with fewer steps is on the other's way
-pub onWay-le : (xs ys zs : List Step) → OnWay xs zs → OnWay ys zs → length xs ≤ length ys → OnWay xs ys
-onWay-le [] ys [] v w h = onWay-root ys
-onWay-le (x ∷ xs) ys [] v w h = absurd (omega (arith, onWay-length (x ∷ xs) [] v))
-onWay-le xs ys (z ∷ zs) v w h = go (onWay-cases xs z zs v) (onWay-cases ys z zs w) (onWay-le xs ys zs)
+pub ancestorOrSelf-le : (xs ys zs : List Step) → AncestorOrSelf xs zs → AncestorOrSelf ys zs → length xs ≤ length ys → AncestorOrSelf xs ys
+ancestorOrSelf-le [] ys [] v w h = ancestorOrSelf-root ys
+ancestorOrSelf-le (x ∷ xs) ys [] v w h = absurd (omega (arith, ancestorOrSelf-length (x ∷ xs) [] v))
+ancestorOrSelf-le xs ys (z ∷ zs) v w h = go (ancestorOrSelf-cases xs z zs v) (ancestorOrSelf-cases ys z zs w) (ancestorOrSelf-le xs ys zs)
   where
-    go : (xs ≡ z ∷ zs) ⊎ OnWay xs zs → (ys ≡ z ∷ zs) ⊎ OnWay ys zs → (OnWay xs zs → OnWay ys zs → length xs ≤ length ys → OnWay xs ys) → OnWay xs ys
+    go : (xs ≡ z ∷ zs) ⊎ AncestorOrSelf xs zs → (ys ≡ z ∷ zs) ⊎ AncestorOrSelf ys zs → (AncestorOrSelf xs zs → AncestorOrSelf ys zs → length xs ≤ length ys → AncestorOrSelf xs ys) → AncestorOrSelf xs ys
     go a (inl e) rest = rw e v
-    go (inl e) (inr b) rest = absurd (omega (arith, ap length e, onWay-length ys zs b))
+    go (inl e) (inr b) rest = absurd (omega (arith, ap length e, ancestorOrSelf-length ys zs b))
     go (inr a) (inr b) rest = rest a b h
 
-pub onWay-same : (xs ys : List Step) → OnWay xs ys → length ys ≤ length xs → xs ≡ ys
-onWay-same xs ys ([], e) h = sym e
-onWay-same xs ys (d ∷ dropped, e) h = absurd (omega (arith, ap length e, length-append dropped xs))
+pub ancestorOrSelf-same : (xs ys : List Step) → AncestorOrSelf xs ys → length ys ≤ length xs → xs ≡ ys
+ancestorOrSelf-same xs ys ([], e) h = sym e
+ancestorOrSelf-same xs ys (d ∷ dropped, e) h = absurd (omega (arith, ap length e, length-append dropped xs))
 
-pub onWay-antisym : (xs ys : List Step) → OnWay xs ys → OnWay ys xs → xs ≡ ys
-onWay-antisym xs ys v w = onWay-same xs ys v (onWay-length ys xs w)
+pub ancestorOrSelf-antisym : (xs ys : List Step) → AncestorOrSelf xs ys → AncestorOrSelf ys xs → xs ≡ ys
+ancestorOrSelf-antisym xs ys v w = ancestorOrSelf-same xs ys v (ancestorOrSelf-length ys xs w)
 
-pub onWay-unique : (xs ys zs : List Step) → OnWay xs zs → OnWay ys zs → length xs ≡ length ys → xs ≡ ys
-onWay-unique xs ys zs v w e = onWay-same xs ys (onWay-le xs ys zs v w (omega arith)) (omega arith)
+pub ancestorOrSelf-unique : (xs ys zs : List Step) → AncestorOrSelf xs zs → AncestorOrSelf ys zs → length xs ≡ length ys → xs ≡ ys
+ancestorOrSelf-unique xs ys zs v w e = ancestorOrSelf-same xs ys (ancestorOrSelf-le xs ys zs v w (omega arith)) (omega arith)
 
-pub isOnWay-true : (ss ts : List Step) → isOnWay ss ts ≡ true → OnWay ss ts
-unfolding isOnWay
-isOnWay-true ss [] e = ([], sym (sameSteps-true ss [] e))
-isOnWay-true ss (t ∷ ts) e = go (sameSteps ss (t ∷ ts)) refl e (isOnWay-true ss ts)
+pub isAncestorOrSelf-true : (ss ts : List Step) → isAncestorOrSelf ss ts ≡ true → AncestorOrSelf ss ts
+unfolding isAncestorOrSelf
+isAncestorOrSelf-true ss [] e = ([], sym (sameSteps-true ss [] e))
+isAncestorOrSelf-true ss (t ∷ ts) e = go (sameSteps ss (t ∷ ts)) refl e (isAncestorOrSelf-true ss ts)
   where
-    go : (same : Bool) → sameSteps ss (t ∷ ts) ≡ same → (same || isOnWay ss ts) ≡ true → (isOnWay ss ts ≡ true → OnWay ss ts) → OnWay ss (t ∷ ts)
+    go : (same : Bool) → sameSteps ss (t ∷ ts) ≡ same → (same || isAncestorOrSelf ss ts) ≡ true → (isAncestorOrSelf ss ts ≡ true → AncestorOrSelf ss ts) → AncestorOrSelf ss (t ∷ ts)
     go true s e rest = ([], sym (sameSteps-true ss (t ∷ ts) s))
-    go false s e rest = onWay-cons t ss ts (rest e)
+    go false s e rest = ancestorOrSelf-cons t ss ts (rest e)
 
-pub isOnWay-append : (dropped ss : List Step) → isOnWay ss (dropped ++ ss) ≡ true
-unfolding isOnWay
-isOnWay-append [] [] = sameSteps-refl []
-isOnWay-append [] (s ∷ ss) = rw (sameSteps-refl (s ∷ ss))
-isOnWay-append (d ∷ dropped) ss = rw (isOnWay-append dropped ss, or-true)
+pub isAncestorOrSelf-append : (dropped ss : List Step) → isAncestorOrSelf ss (dropped ++ ss) ≡ true
+unfolding isAncestorOrSelf
+isAncestorOrSelf-append [] [] = sameSteps-refl []
+isAncestorOrSelf-append [] (s ∷ ss) = rw (sameSteps-refl (s ∷ ss))
+isAncestorOrSelf-append (d ∷ dropped) ss = rw (isAncestorOrSelf-append dropped ss, or-true)
 
-pub isOnWay-onWay : (ss ts : List Step) → OnWay ss ts → isOnWay ss ts ≡ true
-isOnWay-onWay ss ts (dropped, e) = ap (isOnWay ss) e ∙ isOnWay-append dropped ss
+pub isAncestorOrSelf-ancestorOrSelf : (ss ts : List Step) → AncestorOrSelf ss ts → isAncestorOrSelf ss ts ≡ true
+isAncestorOrSelf-ancestorOrSelf ss ts (dropped, e) = ap (isAncestorOrSelf ss) e ∙ isAncestorOrSelf-append dropped ss
 
-pub isOnWay-off : (ss ts : List Step) → (OnWay ss ts → ⊥) → isOnWay ss ts ≡ false
-isOnWay-off ss ts off = go (isOnWay ss ts) refl
+pub isAncestorOrSelf-off : (ss ts : List Step) → (AncestorOrSelf ss ts → ⊥) → isAncestorOrSelf ss ts ≡ false
+isAncestorOrSelf-off ss ts off = go (isAncestorOrSelf ss ts) refl
   where
-    go : (t : Bool) → isOnWay ss ts ≡ t → t ≡ false
-    go true e = absurd (off (isOnWay-true ss ts e))
+    go : (t : Bool) → isAncestorOrSelf ss ts ≡ t → t ≡ false
+    go true e = absurd (off (isAncestorOrSelf-true ss ts e))
     go false e = refl
 
-pub isOnWay-false : (ss ts : List Step) → isOnWay ss ts ≡ false → OnWay ss ts → ⊥
-isOnWay-false ss ts e w = let z : _≡_ {A = ℕ} 0 1 = cc (isOnWay-onWay ss ts w) in omega arith
+pub isAncestorOrSelf-false : (ss ts : List Step) → isAncestorOrSelf ss ts ≡ false → AncestorOrSelf ss ts → ⊥
+isAncestorOrSelf-false ss ts e w = let z : _≡_ {A = ℕ} 0 1 = cc (isAncestorOrSelf-ancestorOrSelf ss ts w) in omega arith
 
 -- the turning point
 
-pub turn-on : (ss ts : List Step) → OnWay ss ts → turn ss ts ≡ ss
+pub turn-on : (ss ts : List Step) → AncestorOrSelf ss ts → turn ss ts ≡ ss
 unfolding turn
 turn-on [] ts w = refl
-turn-on (s ∷ up) ts w = rw (isOnWay-onWay (s ∷ up) ts w)
+turn-on (s ∷ up) ts w = rw (isAncestorOrSelf-ancestorOrSelf (s ∷ up) ts w)
 
-pub turn-off : (s : Step) (up ts : List Step) → (OnWay (s ∷ up) ts → ⊥) → turn (s ∷ up) ts ≡ turn up ts
+pub turn-off : (s : Step) (up ts : List Step) → (AncestorOrSelf (s ∷ up) ts → ⊥) → turn (s ∷ up) ts ≡ turn up ts
 unfolding turn
-turn-off s up ts off = rw (isOnWay-off (s ∷ up) ts off)
+turn-off s up ts off = rw (isAncestorOrSelf-off (s ∷ up) ts off)
 
 pub turning-points : TurningPoints
 unfolding turn
-turning-points [] ts = record { ofFirst = onWay-refl []; ofSecond = onWay-root ts; deepest = λ y v w. onWay-length y [] v }
-turning-points (s ∷ up) ts = go (isOnWay (s ∷ up) ts) refl (turning-points up ts)
+turning-points [] ts = record { ofFirst = ancestorOrSelf-refl []; ofSecond = ancestorOrSelf-root ts; deepest = λ y v w. ancestorOrSelf-length y [] v }
+turning-points (s ∷ up) ts = go (isAncestorOrSelf (s ∷ up) ts) refl (turning-points up ts)
   where
-    go : (on : Bool) → isOnWay (s ∷ up) ts ≡ on → IsTurningPoint up ts (turn up ts) → IsTurningPoint (s ∷ up) ts (turn (s ∷ up) ts)
+    go : (on : Bool) → isAncestorOrSelf (s ∷ up) ts ≡ on → IsTurningPoint up ts (turn up ts) → IsTurningPoint (s ∷ up) ts (turn (s ∷ up) ts)
     go true e above =
-        let w = isOnWay-true (s ∷ up) ts e in
-        rw (turn-on (s ∷ up) ts w) (record { ofFirst = onWay-refl (s ∷ up); ofSecond = w; deepest = λ y v u. onWay-length y (s ∷ up) v })
+        let w = isAncestorOrSelf-true (s ∷ up) ts e in
+        rw (turn-on (s ∷ up) ts w) (record { ofFirst = ancestorOrSelf-refl (s ∷ up); ofSecond = w; deepest = λ y v u. ancestorOrSelf-length y (s ∷ up) v })
     go false e above =
-        let off = isOnWay-false (s ∷ up) ts e in
+        let off = isAncestorOrSelf-false (s ∷ up) ts e in
         rw (turn-off s up ts off) (record {
-          ofFirst = onWay-cons s (turn up ts) up (above .ofFirst);
+          ofFirst = ancestorOrSelf-cons s (turn up ts) up (above .ofFirst);
           ofSecond = above .ofSecond;
-          deepest = λ y v u. ⊎-elim (λ e. absurd (off (rw e at u))) (λ v. above .deepest y v u) (onWay-cases y s up v);
+          deepest = λ y v u. ⊎-elim (λ e. absurd (off (rw e at u))) (λ v. above .deepest y v u) (ancestorOrSelf-cases y s up v);
         })
 
 -- there is one turning point only
 pub turn-unique : (ss ts x : List Step) → IsTurningPoint ss ts x → turn ss ts ≡ x
 turn-unique ss ts x p =
     let q = turning-points ss ts in
-    onWay-unique (turn ss ts) x ss (q .ofFirst) (p .ofFirst)
+    ancestorOrSelf-unique (turn ss ts) x ss (q .ofFirst) (p .ofFirst)
     (le-antisymm (p .deepest (turn ss ts) (q .ofFirst) (q .ofSecond)) (q .deepest x (p .ofFirst) (p .ofSecond)))
 
 pub turn-comm : (ss ts : List Step) → turn ss ts ≡ turn ts ss
@@ -169,17 +169,17 @@ turn-comm ss ts =
     turn-unique ss ts (turn ts ss) (record { ofFirst = p .ofSecond; ofSecond = p .ofFirst; deepest = λ y v w. p .deepest y w v })
 
 pub turn-self : (ss : List Step) → turn ss ss ≡ ss
-turn-self ss = turn-on ss ss (onWay-refl ss)
+turn-self ss = turn-on ss ss (ancestorOrSelf-refl ss)
 
 -- `turn-on` from the other side
-pub turn-on-comm : (ss ts : List Step) → OnWay ss ts → turn ts ss ≡ ss
+pub turn-on-comm : (ss ts : List Step) → AncestorOrSelf ss ts → turn ts ss ≡ ss
 turn-on-comm ss ts w = turn-comm ts ss ∙ turn-on ss ts w
 
 pub length-turn-first : (ss ts : List Step) → length (turn ss ts) ≤ length ss
-length-turn-first ss ts = onWay-length (turn ss ts) ss (turning-points ss ts .ofFirst)
+length-turn-first ss ts = ancestorOrSelf-length (turn ss ts) ss (turning-points ss ts .ofFirst)
 
 pub length-turn-second : (ss ts : List Step) → length (turn ss ts) ≤ length ts
-length-turn-second ss ts = onWay-length (turn ss ts) ts (turning-points ss ts .ofSecond)
+length-turn-second ss ts = ancestorOrSelf-length (turn ss ts) ts (turning-points ss ts .ofSecond)
 
 -- what has more than k steps
 
@@ -217,24 +217,24 @@ length-below k (s ∷ up) = go (ltb k (length (s ∷ up))) refl (length-below k 
     go true e rest = let h = ltb-true k (length (s ∷ up)) e in omega arith
     go false e rest = let h = ltb-false k (length (s ∷ up)) e in omega arith
 
-pub mem-below : (k : ℕ) (ss x : List Step) → List·Memᴰ x (below k ss) → OnWay x ss
+pub mem-below : (k : ℕ) (ss x : List Step) → List·Memᴰ x (below k ss) → AncestorOrSelf x ss
 unfolding below
 mem-below k [] x m = absurd (List·Memᴰ·not-nil m)
 mem-below k (s ∷ up) x m = go (ltb k (length (s ∷ up))) m (mem-below k up x)
   where
-    go : (t : Bool) → List·Memᴰ x (if t then (s ∷ up) ∷ below k up else []) → (List·Memᴰ x (below k up) → OnWay x up) → OnWay x (s ∷ up)
-    go true m rest = ⊎-elim (λ e. ([], sym e)) (λ n. onWay-cons s x up (rest n)) (List·Memᴰ·cases-cons m)
+    go : (t : Bool) → List·Memᴰ x (if t then (s ∷ up) ∷ below k up else []) → (List·Memᴰ x (below k up) → AncestorOrSelf x up) → AncestorOrSelf x (s ∷ up)
+    go true m rest = ⊎-elim (λ e. ([], sym e)) (λ n. ancestorOrSelf-cons s x up (rest n)) (List·Memᴰ·cases-cons m)
     go false m rest = absurd (List·Memᴰ·not-nil m)
 
 -- the path
 
 -- down from one that is on the way
-pub pathOf-on : (x ts : List Step) → OnWay x ts → pathOf x ts ≡ x ∷ reverse (below (length x) ts)
+pub pathOf-on : (x ts : List Step) → AncestorOrSelf x ts → pathOf x ts ≡ x ∷ reverse (below (length x) ts)
 unfolding pathOf
 pathOf-on x ts w = rw (turn-on x ts w, below-self x)
 
 -- up to one that is on the way
-pub pathOf-on-comm : (x ss : List Step) → OnWay x ss → pathOf ss x ≡ below (length x) ss ++ (x ∷ [])
+pub pathOf-on-comm : (x ss : List Step) → AncestorOrSelf x ss → pathOf ss x ≡ below (length x) ss ++ (x ∷ [])
 unfolding pathOf
 pathOf-on-comm x ss w = rw (turn-on-comm x ss w, below-self x)
 
@@ -243,15 +243,15 @@ pub pathOf-turn : (ss ts : List Step) → pathOf ss ts ≡ below (length (turn s
 pathOf-turn ss ts = rw (pathOf-on (turn ss ts) ts (turning-points ss ts .ofSecond)) (unfold pathOf in refl)
 
 pub pathOf-self : (ss : List Step) → pathOf ss ss ≡ ss ∷ []
-pathOf-self ss = pathOf-on ss ss (onWay-refl ss) ∙ rw (below-self ss)
+pathOf-self ss = pathOf-on ss ss (ancestorOrSelf-refl ss) ∙ rw (below-self ss)
 
-pub pathOf-up : (s : Step) (up ts : List Step) → (OnWay (s ∷ up) ts → ⊥) → pathOf (s ∷ up) ts ≡ (s ∷ up) ∷ pathOf up ts
+pub pathOf-up : (s : Step) (up ts : List Step) → (AncestorOrSelf (s ∷ up) ts → ⊥) → pathOf (s ∷ up) ts ≡ (s ∷ up) ∷ pathOf up ts
 unfolding pathOf
 pathOf-up s up ts off = rw (turn-off s up ts off, below-cons (length (turn up ts)) s up (length-turn-first up ts))
 
 pub pathOf-down : (more : List Step) (s : Step) (x : List Step) → pathOf x (more ++ (s ∷ x)) ≡ x ∷ pathOf (s ∷ x) (more ++ (s ∷ x))
 pathOf-down more s x =
-    pathOf-on x (more ++ (s ∷ x)) (onWay-tail s x (more ++ (s ∷ x)) (more, refl))
+    pathOf-on x (more ++ (s ∷ x)) (ancestorOrSelf-tail s x (more ++ (s ∷ x)) (more, refl))
     ∙ rw (below-snoc more s x, reverse-append, pathOf-on (s ∷ x) (more ++ (s ∷ x)) (more, refl))
 
 pub length-pathOf : (ss ts : List Step) → length (pathOf ss ts) + 2 * length (turn ss ts) ≡ length ss + length ts + 1
@@ -263,20 +263,20 @@ length-pathOf ss ts =
 -- one step further up or down makes the path longer or shorter by one
 pub length-pathOf-cons : (s : Step) (up ts : List Step)
     → (length (pathOf (s ∷ up) ts) ≡ length (pathOf up ts) + 1) ⊎ (length (pathOf up ts) ≡ length (pathOf (s ∷ up) ts) + 1)
-length-pathOf-cons s up ts = go (isOnWay (s ∷ up) ts) refl
+length-pathOf-cons s up ts = go (isAncestorOrSelf (s ∷ up) ts) refl
   where
-    go : (on : Bool) → isOnWay (s ∷ up) ts ≡ on
+    go : (on : Bool) → isAncestorOrSelf (s ∷ up) ts ≡ on
         → (length (pathOf (s ∷ up) ts) ≡ length (pathOf up ts) + 1) ⊎ (length (pathOf up ts) ≡ length (pathOf (s ∷ up) ts) + 1)
-    go true e = let (more, f) = isOnWay-true (s ∷ up) ts e in inr (omega (arith, ap length (rw (← f) at (pathOf-down more s up))))
-    go false e = inl (omega (arith, ap length (pathOf-up s up ts (isOnWay-false (s ∷ up) ts e))))
+    go true e = let (more, f) = isAncestorOrSelf-true (s ∷ up) ts e in inr (omega (arith, ap length (rw (← f) at (pathOf-down more s up))))
+    go false e = inl (omega (arith, ap length (pathOf-up s up ts (isAncestorOrSelf-false (s ∷ up) ts e))))
 
 pub pathOf-first : (ss ts : List Step) → (rest : List (List Step)) × (pathOf ss ts ≡ ss ∷ rest)
-pathOf-first [] ts = (_, pathOf-on [] ts (onWay-root ts))
-pathOf-first (s ∷ up) ts = go (isOnWay (s ∷ up) ts) refl
+pathOf-first [] ts = (_, pathOf-on [] ts (ancestorOrSelf-root ts))
+pathOf-first (s ∷ up) ts = go (isAncestorOrSelf (s ∷ up) ts) refl
   where
-    go : (on : Bool) → isOnWay (s ∷ up) ts ≡ on → (rest : List (List Step)) × (pathOf (s ∷ up) ts ≡ (s ∷ up) ∷ rest)
-    go true e = (_, pathOf-on (s ∷ up) ts (isOnWay-true (s ∷ up) ts e))
-    go false e = (_, pathOf-up s up ts (isOnWay-false (s ∷ up) ts e))
+    go : (on : Bool) → isAncestorOrSelf (s ∷ up) ts ≡ on → (rest : List (List Step)) × (pathOf (s ∷ up) ts ≡ (s ∷ up) ∷ rest)
+    go true e = (_, pathOf-on (s ∷ up) ts (isAncestorOrSelf-true (s ∷ up) ts e))
+    go false e = (_, pathOf-up s up ts (isAncestorOrSelf-false (s ∷ up) ts e))
 
 pathOf-last-on : (dropped x : List Step) → (front : List (List Step)) × (pathOf x (dropped ++ x) ≡ front ++ ((dropped ++ x) ∷ []))
 pathOf-last-on [] x = ([], pathOf-self x)
@@ -286,7 +286,7 @@ pathOf-last-on (d ∷ dropped) x =
 pub pathOf-last : (ss ts : List Step) → (front : List (List Step)) × (pathOf ss ts ≡ front ++ (ts ∷ []))
 pathOf-last ss ts = go (turn ss ts) (turning-points ss ts .ofSecond) (pathOf-turn ss ts)
   where
-    go : (x : List Step) → OnWay x ts → pathOf ss ts ≡ below (length x) ss ++ pathOf x ts → (front : List (List Step)) × (pathOf ss ts ≡ front ++ (ts ∷ []))
+    go : (x : List Step) → AncestorOrSelf x ts → pathOf ss ts ≡ below (length x) ss ++ pathOf x ts → (front : List (List Step)) × (pathOf ss ts ≡ front ++ (ts ∷ []))
     go x (dropped, e) split =
         let (front, down) = pathOf-last-on dropped x in
         (below (length x) ss ++ front, split ∙ rw (e, down, append-assoc))
@@ -300,7 +300,7 @@ mem-reverse (a ∷ l) m =
     (List·Memᴰ·append-cases (reverse l) (rw (reverse-cons a l) at m))
 
 -- every address of the path is an ancestor-or-self of one of its ends
-pub mem-pathOf : (ss ts x : List Step) → List·Memᴰ x (pathOf ss ts) → OnWay x ss ⊎ OnWay x ts
+pub mem-pathOf : (ss ts x : List Step) → List·Memᴰ x (pathOf ss ts) → AncestorOrSelf x ss ⊎ AncestorOrSelf x ts
 unfolding pathOf
 mem-pathOf ss ts x m =
     let k = length (turn ss ts) in

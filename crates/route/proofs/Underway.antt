@@ -11,40 +11,41 @@ use lib.Seq.{take-suc-set, take-all}
 use Rattle.address.specs.Bits.{bits}
 use Rattle.address.specs.Steps.{Step, steps}
 use Rattle.address.specs.Address.{bitLength, parent}
-use Rattle.search.specs.Search.{childEnd, prefix}
-use Rattle.address.specs.Reading.{IsAddress, OnWay}
+use Rattle.search.specs.Search.{childEnd, firstBits}
+use Rattle.address.specs.Numbers.{IsAddress}
+use Rattle.address.specs.Ancestors.{AncestorOrSelf}
 use Rattle.address.proofs.Ancestors.{steps-injective}
-use Rattle.search.proofs.Prefixes.{prefix-childEnd}
+use Rattle.search.proofs.Prefixes.{firstBits-childEnd}
 use Rattle.route.specs.Path.{path}
-use Rattle.route.proofs.Turning.{onWay-cases, onWay-next, onWay-antisym}
-use Rattle.route.proofs.PathLaws.{steps-onWay, off-root, steps-parent, path-self, length-path-pos, Next, next-up, next-down}
+use Rattle.route.proofs.Turning.{ancestorOrSelf-cases, ancestorOrSelf-next, ancestorOrSelf-antisym}
+use Rattle.route.proofs.PathLaws.{steps-ancestorOrSelf, off-root, steps-parent, path-self, length-path-pos, Next, next-up, next-down}
 
 -- the next address
 
 -- the address of the next child on the way from a to d
 abbrev pub nextChild : ℕ → ℕ → ℕ
-nextChild a d = prefix (childEnd (bitLength a) (bits d)) d
+nextChild a d = firstBits (childEnd (bitLength a) (bits d)) d
 
 module _ {a d : ℕ} (h : IsAddress a) (b : IsAddress d) (differ : a ≡ d → ⊥) where
-  module _ (w : OnWay (steps d) (steps a)) where
-    off : OnWay (steps a) (steps d) → ⊥
-    off v = differ (steps-injective h b (onWay-antisym (steps a) (steps d) v w))
+  module _ (w : AncestorOrSelf (steps d) (steps a)) where
+    off : AncestorOrSelf (steps a) (steps d) → ⊥
+    off v = differ (steps-injective h b (ancestorOrSelf-antisym (steps a) (steps d) v w))
 
-    pub next-parent : Next a (parent a) d × OnWay (steps d) (steps (parent a))
-    next-parent = let (s, e) = steps-parent h (off-root a d off) in (next-up h b off, go s e (onWay-cases (steps d) s (steps (parent a)) (rw e at w)))
+    pub next-parent : Next a (parent a) d × AncestorOrSelf (steps d) (steps (parent a))
+    next-parent = let (s, e) = steps-parent h (off-root a d off) in (next-up h b off, go s e (ancestorOrSelf-cases (steps d) s (steps (parent a)) (rw e at w)))
       where
-        go : (s : Step) → steps a ≡ s ∷ steps (parent a) → (steps d ≡ s ∷ steps (parent a)) ⊎ OnWay (steps d) (steps (parent a))
-            → OnWay (steps d) (steps (parent a))
+        go : (s : Step) → steps a ≡ s ∷ steps (parent a) → (steps d ≡ s ∷ steps (parent a)) ⊎ AncestorOrSelf (steps d) (steps (parent a))
+            → AncestorOrSelf (steps d) (steps (parent a))
         go s e (inl f) = absurd (differ (steps-injective h b (e ∙ sym f)))
         go s e (inr v) = v
 
-  pub next-child : OnWay (steps a) (steps d) → Next a (nextChild a d) d × OnWay (steps (nextChild a d)) (steps d)
-  next-child w = go (onWay-next (steps a) (steps d) w)
+  pub next-child : AncestorOrSelf (steps a) (steps d) → Next a (nextChild a d) d × AncestorOrSelf (steps (nextChild a d)) (steps d)
+  next-child w = go (ancestorOrSelf-next (steps a) (steps d) w)
     where
-      go : (steps a ≡ steps d) ⊎ ((s : Step) × OnWay (s ∷ steps a) (steps d)) → Next a (nextChild a d) d × OnWay (steps (nextChild a d)) (steps d)
+      go : (steps a ≡ steps d) ⊎ ((s : Step) × AncestorOrSelf (s ∷ steps a) (steps d)) → Next a (nextChild a d) d × AncestorOrSelf (steps (nextChild a d)) (steps d)
       go (inl e) = absurd (differ (steps-injective h b e))
       go (inr (s, (more, e))) =
-          rw (prefix-childEnd h b more s e) ((next-down h b more s e, rw (steps-onWay b (s ∷ steps a) (more, e)) (more, e)))
+          rw (firstBits-childEnd h b more s e) ((next-down h b more s e, rw (steps-ancestorOrSelf b (s ∷ steps a) (more, e)) (more, e)))
 
 -- the words
 

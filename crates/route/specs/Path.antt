@@ -25,14 +25,14 @@ sameSteps (s ∷ ss) [] = false
 sameSteps (child k i ∷ ss) (child l j ∷ ts) = sameKind k l && eqb i j && sameSteps ss ts
 
 -- whether an address, by its steps, is an ancestor of another, or that one itself
-unfoldable pub isOnWay : List Step → List Step → Bool
-isOnWay ss [] = sameSteps ss []
-isOnWay ss (t ∷ ts) = sameSteps ss (t ∷ ts) || isOnWay ss ts
+unfoldable pub isAncestorOrSelf : List Step → List Step → Bool
+isAncestorOrSelf ss [] = sameSteps ss []
+isAncestorOrSelf ss (t ∷ ts) = sameSteps ss (t ∷ ts) || isAncestorOrSelf ss ts
 
 -- "the deepest common ancestor-or-self": the first of an address and its ancestors, upwards, that is an ancestor-or-self of the other
 unfoldable pub turn : List Step → List Step → List Step
 turn [] ts = []
-turn (s ∷ up) ts = if isOnWay (s ∷ up) ts then s ∷ up else turn up ts
+turn (s ∷ up) ts = if isAncestorOrSelf (s ∷ up) ts then s ∷ up else turn up ts
 
 -- an address and its ancestors, upwards, as long as they have more than k steps
 unfoldable pub below : ℕ → List Step → List (List Step)
@@ -51,18 +51,18 @@ unfoldable pub hops : List ℕ → ℕ
 hops p = length p - 1
 
 -- What the path call comes to: the answer, and what the lent words hold at the end.
-pub record Effect : Type 0 where
+pub record PathEffect : Type 0 where
   pub answer : Listed
   pub words : List ℕ
 
 -- "With any refusal the .. hop count .. [is] 0 .. and no byte or word lent is changed."
-unfoldable pub refuse : ℕ → List ℕ → Effect
-refuse n words = record { answer = record { refusal = n; hops = 0 }; words = words }
+unfoldable pub refusePath : ℕ → List ℕ → PathEffect
+refusePath n words = record { answer = record { refusal = n; hops = 0 }; words = words }
 
 -- "For a path 9, 10.": an address is zero; the lent output is too short. "On success only the words or octets named are written."
-unfoldable pub listing : ℕ → ℕ → List ℕ → Effect
+unfoldable pub listing : ℕ → ℕ → List ℕ → PathEffect
 listing a d words =
-    if eqb a 0 then refuse 9 words
-    else if eqb d 0 then refuse 9 words
-    else if ltb (length words) (length (path a d)) then refuse 10 words
+    if eqb a 0 then refusePath 9 words
+    else if eqb d 0 then refusePath 9 words
+    else if ltb (length words) (length (path a d)) then refusePath 10 words
     else record { answer = record { refusal = 0; hops = hops (path a d) }; words = path a d ++ drop (length (path a d)) words }

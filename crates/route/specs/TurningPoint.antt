@@ -3,14 +3,15 @@ use mathlib.Core.List.{List}
 use Prim.Native.Nat.{ℕ, _≤_}
 use lib.ListN.{length}
 use Rattle.address.specs.Steps.{Step}
-use Rattle.address.specs.Reading.{IsAddress, OnWay}
+use Rattle.address.specs.Numbers.{IsAddress}
+use Rattle.address.specs.Ancestors.{AncestorOrSelf}
 use Rattle.route.specs.Path.{turn, path}
 
 -- "the deepest common ancestor-or-self": it is one of both, and none has more steps. "The deepest of several is the one with the most steps."
 pub record IsTurningPoint (ss ts x : List Step) : Type 0 where
-  pub ofFirst : OnWay x ss
-  pub ofSecond : OnWay x ts
-  pub deepest : (y : List Step) → OnWay y ss → OnWay y ts → length y ≤ length x
+  pub ofFirst : AncestorOrSelf x ss
+  pub ofSecond : AncestorOrSelf x ts
+  pub deepest : (y : List Step) → AncestorOrSelf y ss → AncestorOrSelf y ts → length y ≤ length x
 
 abbrev pub TurningPoints : Type 0
 TurningPoints = (ss ts : List Step) → IsTurningPoint ss ts (turn ss ts)

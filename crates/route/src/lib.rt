@@ -5,7 +5,7 @@ ghost use mathlib.Core.List.{List, [], _∷_, _++_};
 ghost use Prim.Native.Nat.{_+_, _<_};
 ghost use lib.ListN.{length};
 ghost use Rattle.address.specs.Steps.{steps, addressOf};
-ghost use Rattle.address.specs.Reading.{OnWay};
+ghost use Rattle.address.specs.Ancestors.{AncestorOrSelf};
 ghost use Rattle.route.specs.Path.{turn, path, listing};
 
 // Refusal 10: "lent output too short".
@@ -38,7 +38,7 @@ fn turning_point(first: Address, second: Address) -> Address
 
 // Lists an address and its ancestors up to, and without, the one named.
 fn list_up(first: Address, top: Address, words: &mut [u64])
-    requires { ⌜ (0 < first .number) × (0 < top .number) × OnWay (steps (top .number)) (steps (first .number)) × (length (path (first .number) (top .number)) ≡ length (now words) + 1) ⌝ }
+    requires { ⌜ (0 < first .number) × (0 < top .number) × AncestorOrSelf (steps (top .number)) (steps (first .number)) × (length (path (first .number) (top .number)) ≡ length (now words) + 1) ⌝ }
     ensures { λ _. ⌜ path (first .number) (top .number) ≡ now (words .exit) ++ (top .number ∷ []) ⌝ }
 {
     let mut a = first;
@@ -52,7 +52,7 @@ fn list_up(first: Address, top: Address, words: &mut [u64])
 
 // Lists the addresses from an ancestor-or-self down to, and without, the one named.
 fn list_down(top: Address, second: Address, words: &mut [u64])
-    requires { ⌜ (0 < top .number) × (0 < second .number) × OnWay (steps (top .number)) (steps (second .number)) × (length (path (top .number) (second .number)) ≡ length (now words) + 1) ⌝ }
+    requires { ⌜ (0 < top .number) × (0 < second .number) × AncestorOrSelf (steps (top .number)) (steps (second .number)) × (length (path (top .number) (second .number)) ≡ length (now words) + 1) ⌝ }
     ensures { λ _. ⌜ path (top .number) (second .number) ≡ now (words .exit) ++ (second .number ∷ []) ⌝ }
 {
     let mut a = top;
@@ -60,7 +60,7 @@ fn list_down(top: Address, second: Address, words: &mut [u64])
     while a.number != second.number {
         words[i] = a.number;
         i += 1;
-        a = search::prefix(second, search::child_end(second, a.bit_length()));
+        a = search::first_bits(second, search::child_end(second, a.bit_length()));
     }
 }
 

@@ -12,10 +12,12 @@ use Rattle.address.specs.declared.Kind.{Kind}
 use Rattle.address.specs.declared.Kind.the-variants.{Router as router, Host as host}
 use Rattle.address.specs.Steps.{Step, child, lastStep, cut, stepsOf, steps, lastOf, stepBits, spelled, addressOf}
 use Rattle.address.specs.Address.{bitLength, isHost}
-use Rattle.address.specs.Reading.{IsAddressString, IsAddress, IsReading, OnWay}
-use Rattle.search.specs.Search.{lookedAt, childEnd, prefix, sameBit, isPrefix, kindLooked, indexLooked}
+use Rattle.address.specs.Numbers.{IsAddressString, IsAddress}
+use Rattle.address.specs.Cuts.{AreSteps}
+use Rattle.address.specs.Ancestors.{AncestorOrSelf}
+use Rattle.search.specs.Search.{lookedAt, childEnd, firstBits, sameBit, isPrefix, kindLooked, indexLooked}
 use Rattle.address.proofs.Numbers.{number-bits, bits-number, bits-string, bitLength-pos}
-use Rattle.address.proofs.Steps.{reading-steps, spelled-steps, stepsOf-routers}
+use Rattle.address.proofs.Steps.{areSteps-steps, spelled-steps, stepsOf-routers}
 use Rattle.address.proofs.Answers.{endsInOne-snoc}
 use Rattle.address.proofs.Ancestors.{behind, routers-tail, routers-steps, bits-tail}
 
@@ -43,19 +45,19 @@ isPrefix-true (c ∷ cs) (d ∷ ds) e =
     let more = isPrefix-true cs ds (both .1) in
     (more .0, ap₂ (λ (b : Bit) (bs : List Bit). b ∷ bs) (sym (sameBit-true c d (both .0))) (more .1))
 
-cut-onway : (k : ℕ) (done : List Step) (bs : List Bit) → OnWay done (cut k done bs)
+cut-ancestorOrSelf : (k : ℕ) (done : List Step) (bs : List Bit) → AncestorOrSelf done (cut k done bs)
 unfolding cut lastStep
-cut-onway zero done [] = ([], refl)
-cut-onway (suc k) done [] = (child host k ∷ [], refl)
-cut-onway k done (O ∷ bs) =
-    let more = cut-onway 0 (child router k ∷ done) bs in
+cut-ancestorOrSelf zero done [] = ([], refl)
+cut-ancestorOrSelf (suc k) done [] = (child host k ∷ [], refl)
+cut-ancestorOrSelf k done (O ∷ bs) =
+    let more = cut-ancestorOrSelf 0 (child router k ∷ done) bs in
     (more .0 ++ (child router k ∷ []), more .1 ∙ sym (append-snoc (more .0) (child router k) done))
-cut-onway k done (I ∷ bs) = cut-onway (suc k) done bs
+cut-ancestorOrSelf k done (I ∷ bs) = cut-ancestorOrSelf (suc k) done bs
 
 module _ {d : ℕ} (b : IsAddress d) (more ss : List Step) (e : steps d ≡ more ++ ss) where
-  pub prefix-tail : prefix (length (spelled ss)) d ≡ addressOf ss
-  unfolding prefix addressOf
-  prefix-tail = rw (bits-tail b more ss e, take-at (spelled ss) (behind more) (length (spelled ss)) refl)
+  pub firstBits-tail : firstBits (length (spelled ss)) d ≡ addressOf ss
+  unfolding firstBits addressOf
+  firstBits-tail = rw (bits-tail b more ss e, take-at (spelled ss) (behind more) (length (spelled ss)) refl)
 
 -- the next step on the way to an address
 
@@ -65,7 +67,7 @@ unfolding lookedAt
 lookedAt-ones zero bs = refl
 lookedAt-ones (suc i) bs = rw (lookedAt-ones i bs)
 
-lookedAt-behind : (s : Step) (more up : List Step) → IsReading (more ++ s ∷ up) → lookedAt (stepBits s ++ behind more) ≡ stepBits s
+lookedAt-behind : (s : Step) (more up : List Step) → AreSteps (more ++ s ∷ up) → lookedAt (stepBits s ++ behind more) ≡ stepBits s
 unfolding lookedAt stepBits lastOf behind
 lookedAt-behind (child router i) more up r = rw append-assoc (lookedAt-ones i (O ∷ behind more))
 lookedAt-behind (child host i) [] up r = rw append-nil (lookedAt-ones i (I ∷ []))
@@ -78,14 +80,14 @@ module _ {x d : ℕ} (a : IsAddress x) (b : IsAddress d) (more : List Step) (s :
       let split : bits d ≡ bits x ++ (stepBits s ++ behind more) =
       bits-tail b more (s ∷ steps x) e ∙ rw (spelled-steps a, append-assoc) in
       rw (split, drop-at (bits x) (stepBits s ++ behind more) (length (bits x)) refl)
-      (lookedAt-behind s more (steps x) (rw e at (reading-steps d)))
+      (lookedAt-behind s more (steps x) (rw e at (areSteps-steps d)))
 
-  pub prefix-childEnd : prefix (childEnd (bitLength x) (bits d)) d ≡ addressOf (s ∷ steps x)
+  pub firstBits-childEnd : firstBits (childEnd (bitLength x) (bits d)) d ≡ addressOf (s ∷ steps x)
   unfolding childEnd spelled bitLength
-  prefix-childEnd =
+  firstBits-childEnd =
       let long : length (spelled (s ∷ steps x)) ≡ bitLength x + length (stepBits s) =
       length-append (spelled (steps x)) (stepBits s) ∙ rw (spelled-steps a) in
-      rw (lookedAt-step, ← long) (prefix-tail b more (s ∷ steps x) e)
+      rw (lookedAt-step, ← long) (firstBits-tail b more (s ∷ steps x) e)
 
 pub kindLooked-stepBits : (kind : Kind) (i : ℕ) → kindLooked (stepBits (child kind i)) ≡ kind
 unfolding kindLooked stepBits lastOf digit
@@ -106,39 +108,39 @@ string-take {bs} s (suc k) p = record {
 -- two addresses: the first on the way to the second, or not
 
 module _ {c d : ℕ} (a : IsAddress c) (b : IsAddress d) where
-  pub onway-prefix : OnWay (steps c) (steps d) → isPrefix (bits c) (bits d) ≡ true
-  onway-prefix (more, e) = rw (bits-tail b more (steps c) e, ← spelled-steps a) (isPrefix-append (spelled (steps c)) (behind more))
+  pub ancestorOrSelf-prefix : AncestorOrSelf (steps c) (steps d) → isPrefix (bits c) (bits d) ≡ true
+  ancestorOrSelf-prefix (more, e) = rw (bits-tail b more (steps c) e, ← spelled-steps a) (isPrefix-append (spelled (steps c)) (behind more))
 
-  pub prefix-onway : isHost c ≡ false → isPrefix (bits c) (bits d) ≡ true → OnWay (steps c) (steps d)
+  pub isPrefix-ancestorOrSelf : isHost c ≡ false → isPrefix (bits c) (bits d) ≡ true → AncestorOrSelf (steps c) (steps d)
   unfolding steps
-  prefix-onway h p =
+  isPrefix-ancestorOrSelf h p =
       let split = isPrefix-true (bits c) (bits d) p in
       let cutting : steps d ≡ cut 0 (steps c) (split .0) =
       ap stepsOf (split .1 ∙ ap (λ (bs : List Bit). bs ++ split .0) (sym (spelled-steps a))) ∙ stepsOf-routers (steps c) (split .0) (routers-steps a h) in
-      let more = cut-onway 0 (steps c) (split .0) in
+      let more = cut-ancestorOrSelf 0 (steps c) (split .0) in
       (more .0, cutting ∙ more .1)
 
   -- the prefix as the code compares it
 
-  pub prefix-eq : isPrefix (bits c) (bits d) ≡ true → prefix (bitLength c) d ≡ c
-  unfolding prefix bitLength
-  prefix-eq p =
+  pub firstBits-eq : isPrefix (bits c) (bits d) ≡ true → firstBits (bitLength c) d ≡ c
+  unfolding firstBits bitLength
+  firstBits-eq p =
       let split = isPrefix-true (bits c) (bits d) p in
       rw (split .1, take-at (bits c) (split .0) (length (bits c)) refl) (number-bits (a .fits))
 
-  pub no-prefix : (prefix (bitLength c) d ≡ c → ⊥) → isPrefix (bits c) (bits d) ≡ false
+  pub no-prefix : (firstBits (bitLength c) d ≡ c → ⊥) → isPrefix (bits c) (bits d) ≡ false
   no-prefix other = go (isPrefix (bits c) (bits d)) refl
     where
       go : (t : Bool) → isPrefix (bits c) (bits d) ≡ t → t ≡ false
-      go true e = absurd (other (prefix-eq e))
+      go true e = absurd (other (firstBits-eq e))
       go false e = refl
 
-  pub prefix-ancestor : OnWay (steps c) (steps d) → prefix (bitLength c) d ≡ c
-  prefix-ancestor w = prefix-eq (onway-prefix w)
+  pub firstBits-ancestor : AncestorOrSelf (steps c) (steps d) → firstBits (bitLength c) d ≡ c
+  firstBits-ancestor w = firstBits-eq (ancestorOrSelf-prefix w)
 
-  pub prefix-isPrefix : prefix (bitLength c) d ≡ c → isPrefix (bits c) (bits d) ≡ true
-  unfolding prefix
-  prefix-isPrefix e =
+  pub firstBits-isPrefix : firstBits (bitLength c) d ≡ c → isPrefix (bits c) (bits d) ≡ true
+  unfolding firstBits
+  firstBits-isPrefix e =
       let same : bits c ≡ take (bitLength c) (bits d) =
       ap bits (sym e) ∙ bits-number (string-take (bits-string b) (bitLength c) (bitLength-pos a)) in
       rw same

@@ -10,7 +10,7 @@ use lib.Seq.{take-suc, take-all, drop-cons}
 use lib.Pow.{shr-shr}
 use Rattle.address.specs.Bits.{Bit, O, I, bits, digit, numberFrom, number, longest}
 use Rattle.address.specs.Address.{bitLength}
-use Rattle.search.specs.Search.{lookedAt, childEnd, prefix}
+use Rattle.search.specs.Search.{lookedAt, childEnd, firstBits}
 use Rattle.address.proofs.Numbers.{digit-lt, numberFrom-append, number-snoc, number-bits}
 
 numberFrom-shr : (n : ℕ) (bs : List Bit) → numberFrom n bs / 2 ^ length bs ≡ n
@@ -38,18 +38,18 @@ digit-getD k bs h =
 
 -- in the code's terms: the length as a call of `bit_length` gave it, and the bit at k by a shift
 module _ {n l : ℕ} (k : ℕ) (fits : n < 2 ^ longest) (long : l ≡ bitLength n) where
-  pub prefix-whole : l ≤ k → prefix k n ≡ n
-  unfolding prefix bitLength
-  prefix-whole h = rw (take-all k (bits n) (omega arith)) (number-bits fits)
+  pub firstBits-whole : l ≤ k → firstBits k n ≡ n
+  unfolding firstBits bitLength
+  firstBits-whole h = rw (take-all k (bits n) (omega arith)) (number-bits fits)
 
-  pub prefix-shr : prefix k n ≡ n / 2 ^ (l - k)
-  unfolding prefix bitLength
-  prefix-shr = number-take k (bits n) ∙ rw (number-bits fits, long)
+  pub firstBits-shr : firstBits k n ≡ n / 2 ^ (l - k)
+  unfolding firstBits bitLength
+  firstBits-shr = number-take k (bits n) ∙ rw (number-bits fits, long)
 
-  pub prefix-shr-half : k < l → prefix k n ≡ n / 2 ^ (l - k - 1) / 2
-  prefix-shr-half h =
+  pub firstBits-shr-half : k < l → firstBits k n ≡ n / 2 ^ (l - k - 1) / 2
+  firstBits-shr-half h =
       let j : l - k ≡ l - k - 1 + 1 = omega arith in
-      prefix-shr ∙ ap (λ (i : ℕ). n / 2 ^ i) j ∙ sym (shr-shr n (l - k - 1) 1)
+      firstBits-shr ∙ ap (λ (i : ℕ). n / 2 ^ i) j ∙ sym (shr-shr n (l - k - 1) 1)
 
   pub childEnd-past : l ≤ k → childEnd k (bits n) ≡ k
   unfolding childEnd lookedAt bitLength

@@ -21,8 +21,8 @@ unfoldable pub childEnd : ℕ → List Bit → ℕ
 childEnd n d = n + length (lookedAt (drop n d))
 
 -- the address of an address's first n bits
-unfoldable pub prefix : ℕ → ℕ → ℕ
-prefix n a = number (take n (bits a))
+unfoldable pub firstBits : ℕ → ℕ → ℕ
+firstBits n a = number (take n (bits a))
 
 unfoldable pub sameBit : Bit → Bit → Bool
 sameBit O O = true

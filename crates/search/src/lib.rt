@@ -2,7 +2,7 @@
 use address::Address;
 ghost use mathlib.Core.Path.{_≡_};
 ghost use Rattle.address.specs.Bits.{bits};
-ghost use Rattle.search.specs.Search.{childEnd, prefix};
+ghost use Rattle.search.specs.Search.{childEnd, firstBits};
 
 // Where the bits of the next child on the way to an address end, counted from the front, where the first `from` bits are behind: at the
 // first 0, or at the last bit.
@@ -25,8 +25,8 @@ pub fn child_end(address: Address, from: u32) -> u32
 }
 
 // The address of the first `count` bits: all of it where it has no more, and zero where `count` is zero.
-pub fn prefix(address: Address, count: u32) -> Address
-    ensures { λ r. ⌜ r .number ≡ prefix count (address .number) ⌝ }
+pub fn first_bits(address: Address, count: u32) -> Address
+    ensures { λ r. ⌜ r .number ≡ firstBits count (address .number) ⌝ }
 {
     let length = address.bit_length();
     if length <= count {

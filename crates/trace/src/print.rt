@@ -20,7 +20,7 @@ pub(crate) fn count(number: u8) {
 
 // The digit that the address's first `bits` bits end with.
 fn digit(address: Address, bits: u32) -> u8 {
-    if search::prefix(address, bits).number % 2 == 0 {
+    if search::first_bits(address, bits).number % 2 == 0 {
         return b'0';
     }
     b'1'

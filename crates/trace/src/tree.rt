@@ -133,8 +133,8 @@ pub(crate) fn request(
 // Whether an address comes before another: by the bits that both have, and the shorter first where these are the same. So every node comes
 // before what is below it, and all of that before anything else.
 fn precedes(a: Address, b: Address) -> bool {
-    let left = search::prefix(a, b.bit_length());
-    let right = search::prefix(b, a.bit_length());
+    let left = search::first_bits(a, b.bit_length());
+    let right = search::first_bits(b, a.bit_length());
     if left.number == right.number {
         return a.bit_length() < b.bit_length();
     }

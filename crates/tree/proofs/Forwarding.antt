@@ -15,7 +15,8 @@ use Rattle.address.specs.Bits.{root}
 use Rattle.address.specs.Steps.{Step, child, steps, addressOf}
 use Rattle.address.specs.Address.{depth, parent}
 use Rattle.octets.specs.Octets.{AreOctets}
-use Rattle.address.specs.Reading.{IsAddress, OnWay}
+use Rattle.address.specs.Numbers.{IsAddress}
+use Rattle.address.specs.Ancestors.{AncestorOrSelf}
 use Rattle.address.proofs.Steps.{addressOf-steps, addressOf-root}
 use Rattle.address.proofs.Ancestors.{steps-injective}
 use Rattle.octets.proofs.OctetLaws.{append-octets, octets-octets}
@@ -24,53 +25,53 @@ use Rattle.header.proofs.Size.{size-le, size-ge}
 use Rattle.header.proofs.Demand2.{reading-header, header-read}
 use Rattle.node.specs.Node.{addressIn, count, isGood}
 use Rattle.node.specs.declared.Node.{Node}
-use Rattle.forward.specs.Forward.{Answer, nextHop}
+use Rattle.forward.specs.Forward.{HopAnswer, nextHop}
 use Rattle.forward.proofs.Hops.{nextHop-deliver, nextHop-up, nextHop-down, nextHop-stop, next-step}
 use Rattle.packet.specs.Packet.{packetHop}
 use Rattle.packet.proofs.PacketHops.{packetHop-found}
 use Rattle.route.specs.Path.{path}
-use Rattle.route.proofs.Turning.{onWay-refl, onWay-cons, onWay-cases, onWay-length, onWay-tail}
-use Rattle.route.proofs.PathLaws.{steps-onWay, depth-steps, off-root}
+use Rattle.route.proofs.Turning.{ancestorOrSelf-refl, ancestorOrSelf-cons, ancestorOrSelf-cases, ancestorOrSelf-length, ancestorOrSelf-tail}
+use Rattle.route.proofs.PathLaws.{steps-ancestorOrSelf, depth-steps, off-root}
 use Rattle.tree.specs.Tree.{Tree, standing, recordOf, InTree}
 use Rattle.tree.specs.Way.{delivery, refusal, passed, fateOf, fateBy, fate, End, deliveredAt, stoppedAt, TheWay, IsPacket}
 use Rattle.tree.specs.Demand3.{Arrives, IsAncestor, StopsAt}
 use Rattle.tree.proofs.Sound.{Sound}
 use Rattle.tree.proofs.Trees.{recordOf-inTree, addressIn-recordOf, dec-inTree}
 use Rattle.tree.proofs.Ways.{theWay-delivered, theWay-stopped, theWay-onward}
-use Rattle.tree.proofs.Paths.{Route, arrived, up, down, route, inTree-onWay, walk-path, differ-path}
+use Rattle.tree.proofs.Paths.{Route, arrived, up, down, route, inTree-ancestorOrSelf, walk-path, differ-path}
 use Rattle.tree.proofs.Walks.{hops-path-walk}
 
 -- ---- the node that every other node on a way leads to
 
-onWay-trans : {xs ys zs : List Step} → OnWay xs ys → OnWay ys zs → OnWay xs zs
-onWay-trans {xs} (more, e) (further, f) = (further ++ more, f ∙ rw (e, append-assoc))
+ancestorOrSelf-trans : {xs ys zs : List Step} → AncestorOrSelf xs ys → AncestorOrSelf ys zs → AncestorOrSelf xs zs
+ancestorOrSelf-trans {xs} (more, e) (further, f) = (further ++ more, f ∙ rw (e, append-assoc))
 
 record Nearest (t : Tree) (ss : List Step) (x : ℕ) : Type 0 where
   there : InTree x t
-  on : OnWay (steps x) ss
-  nearest : (y : ℕ) → InTree y t → OnWay (steps y) ss → OnWay (steps y) (steps x)
+  on : AncestorOrSelf (steps x) ss
+  nearest : (y : ℕ) → InTree y t → AncestorOrSelf (steps y) ss → AncestorOrSelf (steps y) (steps x)
 
 nearest-self : {t : Tree} {ss : List Step} {x : ℕ} → InTree x t → steps x ≡ ss → Nearest t ss x
 nearest-self i e = record { there = i; on = ([], sym e); nearest = λ y j w. rw e w }
 
 -- up from an address, until one is in the tree
-nearest-above : {t : Tree} → Sound t → {d : ℕ} → IsAddress d → (ss : List Step) → OnWay ss (steps d) → (x : ℕ) × Nearest t ss x
-nearest-above sound b [] w = (root, nearest-self (sound .rooted) (ap steps (sym addressOf-root) ∙ steps-onWay b [] w))
+nearest-above : {t : Tree} → Sound t → {d : ℕ} → IsAddress d → (ss : List Step) → AncestorOrSelf ss (steps d) → (x : ℕ) × Nearest t ss x
+nearest-above sound b [] w = (root, nearest-self (sound .rooted) (ap steps (sym addressOf-root) ∙ steps-ancestorOrSelf b [] w))
 nearest-above {t} sound {d} b (s ∷ above) w =
-    go (dec-inTree (addressOf (s ∷ above)) t) (nearest-above sound b above (onWay-tail s above (steps d) w))
+    go (dec-inTree (addressOf (s ∷ above)) t) (nearest-above sound b above (ancestorOrSelf-tail s above (steps d) w))
   where
     go : Dec (InTree (addressOf (s ∷ above)) t) → (x : ℕ) × Nearest t above x → (x : ℕ) × Nearest t (s ∷ above) x
-    go (yes i) further = (addressOf (s ∷ above), nearest-self i (steps-onWay b (s ∷ above) w))
+    go (yes i) further = (addressOf (s ∷ above), nearest-self i (steps-ancestorOrSelf b (s ∷ above) w))
     go (no out) (x, near) = (
       x,
       record {
         there = near .there;
-        on = onWay-cons s (steps x) above (near .on);
+        on = ancestorOrSelf-cons s (steps x) above (near .on);
         nearest = λ y i v.
             ⊎-elim
             (λ e. absurd (out (Memᴰ·cast (ap addressOf (sym e) ∙ addressOf-steps (sound .address y i)) i)))
             (near .nearest y i)
-            (onWay-cases (steps y) s above v);
+            (ancestorOrSelf-cases (steps y) s above v);
       },
     )
 
@@ -90,17 +91,17 @@ module _ (t : Tree) (sound : Sound t) (p : List ℕ) (d : ℕ) (packet : IsPacke
     address-own : IsAddress (addressIn n)
     address-own = subst IsAddress (sym own) (sound .address a i)
 
-    fate-hop : {r : Answer} → nextHop n d ≡ r → fate (packetHop n p) ≡ fate r
+    fate-hop : {r : HopAnswer} → nextHop n d ≡ r → fate (packetHop n p) ≡ fate r
     fate-hop e = ap fate (packetHop-found n p good (packet .reads) ∙ e)
 
     fate-deliver : a ≡ d → fate (packetHop n p) ≡ delivery
     unfolding fate fateBy fateOf
     fate-deliver e = fate-hop (nextHop-deliver n d good address-own address-packet (sym (own ∙ e)))
 
-    fate-up : (OnWay (steps a) (steps d) → ⊥) → fate (packetHop n p) ≡ passed (parent a)
+    fate-up : (AncestorOrSelf (steps a) (steps d) → ⊥) → fate (packetHop n p) ≡ passed (parent a)
     unfolding fate fateBy fateOf
     fate-up off =
-        fate-hop (nextHop-up n d good address-own address-packet (subst (λ (k : ℕ). OnWay (steps k) (steps d) → ⊥) (sym own) off))
+        fate-hop (nextHop-up n d good address-own address-packet (subst (λ (k : ℕ). AncestorOrSelf (steps k) (steps d) → ⊥) (sym own) off))
         ∙ ap (λ (k : ℕ). passed (parent k)) own
 
     module _ (more : List Step) (kind : Kind) (j : ℕ) (e : steps d ≡ more ++ (child kind j ∷ steps a)) where
@@ -133,9 +134,9 @@ module _ (t : Tree) (sound : Sound t) (p : List ℕ) (d : ℕ) (packet : IsPacke
     theWay-route {a} end i (down (child kind j) w r) =
         let (n, stands, own) = recordOf-inTree t i in
         let c = addressOf (child kind j ∷ steps a) in
-        let below = inTree-onWay t sound (child kind j ∷ steps a) there w in
-        let given = sound .counted a c n kind j stands below (steps-onWay (sound .address x there) (child kind j ∷ steps a) w) in
-        let (more, e) = onWay-trans w (near .on) in
+        let below = inTree-ancestorOrSelf t sound (child kind j ∷ steps a) there w in
+        let given = sound .counted a c n kind j stands below (steps-ancestorOrSelf (sound .address x there) (child kind j ∷ steps a) w) in
+        let (more, e) = ancestorOrSelf-trans w (near .on) in
         theWay-onward packetHop t p stands (fate-down i stands more kind j e given) below (theWay-route end below r)
 
     theWay-path : {a : ℕ} {e : End} → TheWay packetHop t p x (x ∷ []) e → InTree a t → TheWay packetHop t p a (path a x) e
@@ -155,7 +156,7 @@ module _ (t : Tree) (sound : Sound t) (p : List ℕ) (d : ℕ) (packet : IsPacke
         nobody {n} more kind j e stands h =
             let (c, i, f) = sound .given x n kind j stands h in
             let nearer = near .nearest c i (more, e ∙ ap (λ (l : List Step). more ++ l) (sym f)) in
-            omega (arith, ap length f, onWay-length (steps c) (steps x) nearer)
+            omega (arith, ap length f, ancestorOrSelf-length (steps c) (steps x) nearer)
 
         go : (s : Step) × (more : List Step) × (steps d ≡ more ++ (s ∷ steps x)) → (n : Node) × (recordOf x t ≡ standing n) × (addressIn n ≡ x)
             → TheWay packetHop t p x (x ∷ []) (stoppedAt 7 x)
@@ -177,21 +178,21 @@ arrival t sound a d p i j packet =
 
 pub absence : (t : Tree) → Sound t → (a d : ℕ) (p : List ℕ) → InTree a t → (InTree d t → ⊥) → IsPacket p d
     → (x : ℕ) × StopsAt packetHop t p a d x
-absence t sound a d p i out packet = go (nearest-above sound b (steps d) (onWay-refl (steps d)))
+absence t sound a d p i out packet = go (nearest-above sound b (steps d) (ancestorOrSelf-refl (steps d)))
   where
     b : IsAddress d
     b = address-packet t sound p d packet
 
-    ancestor : {x : ℕ} → InTree x t → OnWay (steps x) (steps d) → IsAncestor x d
+    ancestor : {x : ℕ} → InTree x t → AncestorOrSelf (steps x) (steps d) → IsAncestor x d
     ancestor {x} j ([], e) = absurd (out (Memᴰ·cast (steps-injective b (sound .address x j) e) j))
     ancestor {x} j (last ∷ others, e) =
         record { kept = steps x; last = last; others = others; dropped = e; remains = sym (addressOf-steps (sound .address x j)) }
 
     deepest : {x y : ℕ} → Nearest t (steps d) x → IsAncestor y d → InTree y t → depth y ≤ depth x
     deepest {x} {y} near above j =
-        let w : OnWay (above .kept) (steps d) = (above .last ∷ above .others, above .dropped) in
-        let kept : steps y ≡ above .kept = ap steps (above .remains) ∙ steps-onWay b (above .kept) w in
-        omega (arith, depth-steps x, depth-steps y, onWay-length (steps y) (steps x) (near .nearest y j (rw kept w)))
+        let w : AncestorOrSelf (above .kept) (steps d) = (above .last ∷ above .others, above .dropped) in
+        let kept : steps y ≡ above .kept = ap steps (above .remains) ∙ steps-ancestorOrSelf b (above .kept) w in
+        omega (arith, depth-steps x, depth-steps y, ancestorOrSelf-length (steps y) (steps x) (near .nearest y j (rw kept w)))
 
     go : (x : ℕ) × Nearest t (steps d) x → (x : ℕ) × StopsAt packetHop t p a d x
     go (x, near) = (

@@ -14,10 +14,10 @@ use Rattle.address.specs.declared.Kind.the-variants.{Router, Host}
 use Rattle.address.specs.Bits.{number, root}
 use Rattle.address.specs.Steps.{Step, child, steps}
 use Rattle.address.specs.Address.{depth, above, parent}
-use Rattle.address.specs.Reading.{IsAddress}
+use Rattle.address.specs.Numbers.{IsAddress}
 use Rattle.address.proofs.Steps.{addressOf-steps, depth-range}
 use Rattle.address.proofs.Ancestors.{steps-injective}
-use Rattle.node.specs.Node.{addressIn, fresh, count, raised, isGood, childBits, refuse, childOf}
+use Rattle.node.specs.Node.{addressIn, fresh, count, raised, isGood, childBits, refuseChild, childOf}
 use Rattle.node.specs.declared.Node.{Node}
 use Rattle.node.proofs.Children.{addressIn-fresh, count-fresh, addressIn-raised, count-raised, isGood-fresh}
 use Rattle.node.proofs.Children.{MayGive, childOf-cases, childOf-given, isGood-raised, steps-child, address-child, parent-child}
@@ -210,15 +210,15 @@ module _ (t : Tree) (s : Sound t) (a : ℕ) (n : Node) (stands : recordOf a t �
 -- ---- requests
 
 -- a refused one changes nothing
-pub answered-refused : (t : Tree) (a : ℕ) (n : Node) → recordOf a t ≡ standing n → (k : ℕ) → answered a (refuse (suc k) n) t .tree ≡ t
-unfolding answered withChild refuse
+pub answered-refused : (t : Tree) (a : ℕ) (n : Node) → recordOf a t ≡ standing n → (k : ℕ) → answered a (refuseChild (suc k) n) t .tree ≡ t
+unfolding answered withChild refuseChild
 answered-refused t a n stands k = rw (ne-eqb (suc k) 0 (λ z. omega arith)) (replaced-recordOf a n t stands)
 
 sound-answered : (t : Tree) → Sound t → (a : ℕ) (n : Node) → recordOf a t ≡ standing n → (kind : Kind)
     → Sound (answered a (childOf n kind) t .tree)
 sound-answered t s a n stands kind =
     ⊎-elim (λ (may : MayGive n kind). rw (childOf-given may) (unfold answered withChild in sound-given t s a n stands kind may))
-    (λ (refusal : (k : ℕ) × (childOf n kind ≡ refuse (suc k) n)). rw (refusal .1, answered-refused t a n stands (refusal .0)) s)
+    (λ (refusal : (k : ℕ) × (childOf n kind ≡ refuseChild (suc k) n)). rw (refusal .1, answered-refused t a n stands (refusal .0)) s)
     (childOf-cases n kind)
 
 pub sound-ask : (t : Tree) (r : Request) → Sound t → Sound (ask childOf t r .tree)

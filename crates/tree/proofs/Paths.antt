@@ -11,12 +11,13 @@ use lib.Seq.{append-snoc}
 use Rattle.address.specs.Bits.{root}
 use Rattle.address.specs.Steps.{Step, steps, addressOf}
 use Rattle.address.specs.Address.{depth, parent}
-use Rattle.address.specs.Reading.{IsAddress, OnWay}
+use Rattle.address.specs.Numbers.{IsAddress}
+use Rattle.address.specs.Ancestors.{AncestorOrSelf}
 use Rattle.address.proofs.Steps.{addressOf-steps, depth-range}
 use Rattle.address.proofs.Ancestors.{steps-injective}
-use Rattle.route.specs.Path.{isOnWay, path}
-use Rattle.route.proofs.Turning.{onWay-next, isOnWay-true, isOnWay-false}
-use Rattle.route.proofs.PathLaws.{address-onWay, steps-onWay, depth-steps, off-root, address-parent, steps-parent, length-path-pos, path-self, path-up, path-down, path-once}
+use Rattle.route.specs.Path.{isAncestorOrSelf, path}
+use Rattle.route.proofs.Turning.{ancestorOrSelf-next, isAncestorOrSelf-true, isAncestorOrSelf-false}
+use Rattle.route.proofs.PathLaws.{address-ancestorOrSelf, steps-ancestorOrSelf, depth-steps, off-root, address-parent, steps-parent, length-path-pos, path-self, path-up, path-down, path-once}
 use Rattle.tree.specs.Tree.{Tree, InTree, AllDiffer, Walk, here, along}
 use Rattle.tree.proofs.Sound.{Sound}
 
@@ -25,14 +26,14 @@ use Rattle.tree.proofs.Sound.{Sound}
 -- the path to d, as it is made: up from what is not on the way to d, down from what is
 pub data Route (d : ℕ) : ℕ → List ℕ → Type 0 where
   arrived : {a : ℕ} → a ≡ d → Route d a (a ∷ [])
-  up : {a : ℕ} {w : List ℕ} → (OnWay (steps a) (steps d) → ⊥) → Route d (parent a) w → Route d a (a ∷ w)
-  down : {a : ℕ} {w : List ℕ} (s : Step) → OnWay (s ∷ steps a) (steps d) → Route d (addressOf (s ∷ steps a)) w → Route d a (a ∷ w)
+  up : {a : ℕ} {w : List ℕ} → (AncestorOrSelf (steps a) (steps d) → ⊥) → Route d (parent a) w → Route d a (a ∷ w)
+  down : {a : ℕ} {w : List ℕ} (s : Step) → AncestorOrSelf (s ∷ steps a) (steps d) → Route d (addressOf (s ∷ steps a)) w → Route d a (a ∷ w)
 
 route-of : {a d : ℕ} → IsAddress a → IsAddress d → (w : List ℕ) → path a d ≡ w → Route d a w
 route-of {a} {d} h b [] e = absurd (omega (arith, length-path-pos a d, ap length e))
-route-of {a} {d} h b (x ∷ w) e = go (isOnWay (steps a) (steps d)) refl (λ c k. route-of k b w)
+route-of {a} {d} h b (x ∷ w) e = go (isAncestorOrSelf (steps a) (steps d)) refl (λ c k. route-of k b w)
   where
-    below : (steps a ≡ steps d) ⊎ ((s : Step) × OnWay (s ∷ steps a) (steps d)) → ((c : ℕ) → IsAddress c → path c d ≡ w → Route d c w)
+    below : (steps a ≡ steps d) ⊎ ((s : Step) × AncestorOrSelf (s ∷ steps a) (steps d)) → ((c : ℕ) → IsAddress c → path c d ≡ w → Route d c w)
         → Route d a (x ∷ w)
     below (inl f) rest =
         let same = steps-injective h b f in
@@ -41,12 +42,12 @@ route-of {a} {d} h b (x ∷ w) e = go (isOnWay (steps a) (steps d)) refl (λ c k
     below (inr (s, on)) rest =
         let f = path-down h b (on .0) s (on .1) in
         let first : x ≡ a = cc in
-        rw first (down s on (rest (addressOf (s ∷ steps a)) (address-onWay b (s ∷ steps a) on) (cc)))
+        rw first (down s on (rest (addressOf (s ∷ steps a)) (address-ancestorOrSelf b (s ∷ steps a) on) (cc)))
 
-    go : (on : Bool) → isOnWay (steps a) (steps d) ≡ on → ((c : ℕ) → IsAddress c → path c d ≡ w → Route d c w) → Route d a (x ∷ w)
-    go true on rest = below (onWay-next (steps a) (steps d) (isOnWay-true (steps a) (steps d) on)) rest
+    go : (on : Bool) → isAncestorOrSelf (steps a) (steps d) ≡ on → ((c : ℕ) → IsAddress c → path c d ≡ w → Route d c w) → Route d a (x ∷ w)
+    go true on rest = below (ancestorOrSelf-next (steps a) (steps d) (isAncestorOrSelf-true (steps a) (steps d) on)) rest
     go false on rest =
-        let off = isOnWay-false (steps a) (steps d) on in
+        let off = isAncestorOrSelf-false (steps a) (steps d) on in
         let f = path-up h d off in
         let first : x ≡ a = cc in
         rw first (up off (rest (parent a) (address-parent h (off-root a d off)) (cc)))
@@ -82,8 +83,8 @@ module _ (t : Tree) (sound : Sound t) where
       let h = sound .address d m in
       ancestors dropped x (sound .parents d m (not-root h e)) (steps-above h e)
 
-  pub inTree-onWay : {d : ℕ} (x : List Step) → InTree d t → OnWay x (steps d) → InTree (addressOf x) t
-  inTree-onWay x m (dropped, e) = ancestors dropped x m e
+  pub inTree-ancestorOrSelf : {d : ℕ} (x : List Step) → InTree d t → AncestorOrSelf x (steps d) → InTree (addressOf x) t
+  inTree-ancestorOrSelf x m (dropped, e) = ancestors dropped x m e
 
   walk-route : {a d : ℕ} {w : List ℕ} → InTree a t → InTree d t → Route d a w → Walk t a d w
   walk-route {a} m k (arrived e) = rw (← e) (here m)
@@ -93,9 +94,9 @@ module _ (t : Tree) (sound : Sound t) where
       along (inl (record { lower = m; upper = n; notRoot = below; isParent = refl })) (walk-route n k r)
   walk-route {a} {d} m k (down s on r) =
       let c = addressOf (s ∷ steps a) in
-      let n = inTree-onWay (s ∷ steps a) k on in
+      let n = inTree-ancestorOrSelf (s ∷ steps a) k on in
       let h = sound .address c n in
-      let e = steps-onWay (sound .address d k) (s ∷ steps a) on in
+      let e = steps-ancestorOrSelf (sound .address d k) (s ∷ steps a) on in
       let own = parent-step h e (sound .address a m) refl in
       along (inr (record { lower = n; upper = m; notRoot = not-root h e; isParent = own })) (walk-route n k r)
 

@@ -8,7 +8,7 @@ use Rattle.address.specs.declared.Kind.{Kind}
 use Rattle.address.specs.Bits.{root}
 use Rattle.address.specs.Steps.{child, steps}
 use Rattle.address.specs.Address.{parent}
-use Rattle.address.specs.Reading.{IsAddress}
+use Rattle.address.specs.Numbers.{IsAddress}
 use Rattle.node.specs.Node.{count, isGood}
 use Rattle.node.specs.declared.Node.{Node}
 use Rattle.tree.specs.Tree.{Tree, standing, recordOf, addresses, InTree, AllDiffer}

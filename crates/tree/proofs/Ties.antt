@@ -10,20 +10,20 @@ use lib.Dec.{eqb, ltb}
 use contract.Lifetimes.{Lfts}
 use denote.Ref.{RefT, now}
 use Rattle.address.specs.Choice.{if_then_else_}
-use Rattle.octets.specs.Octets.{Effect as OctetEffect, refuseWriting, write}
+use Rattle.octets.specs.Octets.{WriteEffect, refuseWriting, write}
 use Rattle.address.specs.declared.Address.{Address}
 use Rattle.address.specs.declared.Kind.{Kind}
 use Rattle.octets.specs.declared.Written.{Written}
 use Rattle.header.specs.declared.Reading.{Reading}
-use Rattle.header.specs.Header.{header, place, writing, reading, answer as readingAnswer}
+use Rattle.header.specs.Header.{header, place, writing, reading, headerAnswer}
 use Rattle.node.specs.declared.Node.{Node}
 use Rattle.node.specs.declared.Given.{Given}
 use Rattle.node.specs.Node.{fresh, childOf}
 use Rattle.forward.specs.declared.Hop.{Hop}
-use Rattle.forward.specs.Forward.{answer as hopAnswer}
+use Rattle.forward.specs.Forward.{hopAnswer}
 use Rattle.packet.specs.Packet.{packetHop}
 use Rattle.route.specs.declared.Listed.{Listed}
-use Rattle.route.specs.Path.{Effect as PathEffect, path, hops, refuse, listing}
+use Rattle.route.specs.Path.{PathEffect, path, hops, refusePath, listing}
 use Rattle.node.proofs.Node.child.Reads as child-reads
 use Rattle.node.proofs.Node.fresh.Reads as fresh-reads
 use Rattle.header.proofs.write.Reads as write-reads
@@ -52,7 +52,7 @@ next-hop-tie κs n packet r h = h
 
 pub read-tie : (κs : Lfts 1) (packet : Slice) (r : Reading)
     → read-reads.Learnt κs (packet, tt) r (packet, tt)
-    → readingAnswer r ≡ reading (now packet)
+    → headerAnswer r ≡ reading (now packet)
 read-tie κs packet r h = h
 
 -- ---- headers and paths: what is not refused is what is done
@@ -65,17 +65,17 @@ unrefused number false refusal rest ne e = (refl, e)
 writing-unrefused : (a : ℕ) (buffer : List ℕ) → writing a buffer .answer .refusal ≡ 0 → writing a buffer ≡ write (header a) buffer
 unfolding writing refuseWriting
 writing-unrefused a buffer e =
-    let some = unrefused (λ (w : OctetEffect). w .answer .refusal) (eqb a 0) (refuseWriting 9 buffer) _ (λ z. omega arith) e in
-    let room = unrefused (λ (w : OctetEffect). w .answer .refusal) (ltb (length buffer) (place a)) (refuseWriting 10 buffer) _ (λ z. omega arith) (some .1) in
+    let some = unrefused (λ (w : WriteEffect). w .answer .refusal) (eqb a 0) (refuseWriting 9 buffer) _ (λ z. omega arith) e in
+    let room = unrefused (λ (w : WriteEffect). w .answer .refusal) (ltb (length buffer) (place a)) (refuseWriting 10 buffer) _ (λ z. omega arith) (some .1) in
     some .0 ∙ room .0
 
 listing-unrefused : (a d : ℕ) (words : List ℕ) → listing a d words .answer .refusal ≡ 0
     → listing a d words ≡ record { answer = record { refusal = 0; hops = hops (path a d) }; words = path a d ++ drop (length (path a d)) words }
-unfolding listing refuse
+unfolding listing refusePath
 listing-unrefused a d words e =
-    let first = unrefused (λ (w : PathEffect). w .answer .refusal) (eqb a 0) (refuse 9 words) _ (λ z. omega arith) e in
-    let second = unrefused (λ (w : PathEffect). w .answer .refusal) (eqb d 0) (refuse 9 words) _ (λ z. omega arith) (first .1) in
-    let room = unrefused (λ (w : PathEffect). w .answer .refusal) (ltb (length words) (length (path a d))) (refuse 10 words) _ (λ z. omega arith) (second .1) in
+    let first = unrefused (λ (w : PathEffect). w .answer .refusal) (eqb a 0) (refusePath 9 words) _ (λ z. omega arith) e in
+    let second = unrefused (λ (w : PathEffect). w .answer .refusal) (eqb d 0) (refusePath 9 words) _ (λ z. omega arith) (first .1) in
+    let room = unrefused (λ (w : PathEffect). w .answer .refusal) (ltb (length words) (length (path a d))) (refusePath 10 words) _ (λ z. omega arith) (second .1) in
     first .0 ∙ second .0 ∙ room .0
 
 module _ (κs : Lfts 1) (address : Address) (out last : Slice) (r : Written) where
@@ -88,7 +88,7 @@ module _ (κs : Lfts 1) (address : Address) (out last : Slice) (r : Written) whe
   unfolding write
   header-tie h e =
       let written = writing-unrefused (address .number) (now out) (ap (λ (w : Written). w .refusal) (sym (h .0)) ∙ e) in
-      h .1 ∙ ap (λ (w : OctetEffect). w .buffer) written
+      h .1 ∙ ap (λ (w : WriteEffect). w .buffer) written
 
 module _ (κs : Lfts 1) (first second : Address) (words last : Slice) (r : Listed) where
   pub listing-tie : path-reads.Learnt κs (first, (second, (words, tt))) r (first, (second, (last, tt)))

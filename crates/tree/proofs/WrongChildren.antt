@@ -15,7 +15,7 @@ use Rattle.search.specs.Search.{lookedAt, isPrefix, sameBit, kindLooked, indexL
 use Rattle.address.specs.declared.Kind.{Kind}
 use Rattle.address.specs.declared.Kind.the-variants.{Router, Host}
 use Rattle.header.specs.Header.{header, size, reading, startFault, inOrder, sizeTold, addressFault, sizeAllowed, zeroFault, addressOctets}
-use Rattle.node.specs.Node.{addressAt, fresh, count, raised, isGood, childBits, refuse, childOf}
+use Rattle.node.specs.Node.{addressAt, fresh, count, raised, isGood, childBits, refuseChild, childOf}
 use Rattle.node.specs.declared.Node.{Node}
 use Rattle.node.specs.declared.Given.{Given}
 use Rattle.forward.specs.Forward.{nextHop, rules, toward}
@@ -35,7 +35,7 @@ unfolding bits bitsIn lastBit bitLength number numberFrom digit stepBits lastOf 
 forBits = tt
 
 forTrees : Unit {0}
-unfolding forBits grown grow ask askedOf answered withChild replaced recordOf bareRoot addresses fresh count raised isGood childBits refuse
+unfolding forBits grown grow ask askedOf answered withChild replaced recordOf bareRoot addresses fresh count raised isGood childBits refuseChild
 forTrees = tt
 
 forPackets : Unit {0}
@@ -143,14 +143,14 @@ limit-on-parent-refuted h =
 
 -- ---- whatever refuses at the bare root
 
-module _ (rule : ChildRule) (k : ℕ) (refuses : (kind : Kind) → rule (fresh root) kind ≡ refuse (suc k) (fresh root)) where
+module _ (rule : ChildRule) (k : ℕ) (refuses : (kind : Kind) → rule (fresh root) kind ≡ refuseChild (suc k) (fresh root)) where
   ask-refusing : (r : Request) → ask rule bareRoot r .tree ≡ bareRoot
   unfolding ask askedOf
   ask-refusing (request a kind) = go (recordOf a bareRoot) refl
     where
       go : (x : Record) → recordOf a bareRoot ≡ x → askedOf rule x a kind bareRoot .tree ≡ bareRoot
       go (standing n) e =
-          let refused : rule n kind ≡ refuse (suc k) n = cc (recordOf-bareRoot a n e, refuses kind) in
+          let refused : rule n kind ≡ refuseChild (suc k) n = cc (recordOf-bareRoot a n e, refuses kind) in
           rw refused (answered-refused bareRoot a n e k)
       go absent e = refl
 
@@ -160,18 +160,18 @@ module _ (rule : ChildRule) (k : ℕ) (refuses : (kind : Kind) → rule (fresh r
   grown-refusing (r ∷ rs) = ap (λ (t : Tree). grow rule t rs .tree) (ask-refusing r) ∙ grown-refusing rs
 
   differs : childOf (fresh root) Router .refusal ≡ 0 → rule (fresh root) Router ≡ childOf (fresh root) Router → ⊥
-  unfolding refuse
+  unfolding refuseChild
   differs given e = let f : suc k ≡ 0 = cc (ap (λ (g : Given). g .refusal) (refuses Router)) in omega arith
 
 given-root : childOf (fresh root) Router .refusal ≡ 0
 unfolding forTrees childOf
 given-root = refl
 
-refusesAll-root : (kind : Kind) → refusesAll (fresh root) kind ≡ refuse 3 (fresh root)
+refusesAll-root : (kind : Kind) → refusesAll (fresh root) kind ≡ refuseChild 3 (fresh root)
 unfolding refusesAll
 refusesAll-root kind = refl
 
-rootAsHost-root : (kind : Kind) → rootAsHost (fresh root) kind ≡ refuse 2 (fresh root)
+rootAsHost-root : (kind : Kind) → rootAsHost (fresh root) kind ≡ refuseChild 2 (fresh root)
 unfolding forTrees rootAsHost
 rootAsHost-root kind = refl
 

@@ -13,15 +13,15 @@ use Rattle.address.specs.Bits.{bits, bitsIn, lastBit, digit, number, numberFrom
 use Rattle.address.specs.Steps.{stepBits, lastOf, steps, stepsOf, cut, lastStep, addressOf, spelled}
 use Rattle.address.specs.Address.{bitLength, endsInOne, isHost, above, parent}
 use Rattle.search.specs.Search.{lookedAt, isPrefix, sameBit, kindLooked, indexLooked}
-use Rattle.address.specs.Reading.{IsAddress}
-use Rattle.header.specs.Header.{header, reading, Answer as Reading}
+use Rattle.address.specs.Numbers.{IsAddress}
+use Rattle.header.specs.Header.{header, reading, HeaderAnswer}
 use Rattle.header.proofs.Demand2.{reading-header}
 use Rattle.node.specs.declared.Node.{Node}
 use Rattle.node.specs.Node.{fresh, count, raised, isGood, childBits, childOf}
 use Rattle.forward.specs.Forward.{nextHop, rules, toward}
 use Rattle.packet.specs.Packet.{packetHop}
 use Rattle.tree.specs.Tree.{Request, request, Tree, bareRoot, recordOf, replaced, withChild, answered, askedOf, ask, grow, grown, addresses, InTree, standing, Linked, Walk, here, along}
-use Rattle.route.specs.Path.{path, pathOf, turn, isOnWay, sameSteps, below}
+use Rattle.route.specs.Path.{path, pathOf, turn, isAncestorOrSelf, sameSteps, below}
 use Rattle.tree.specs.Way.{Fate, fateOf, fateBy, fate, deliveredAt, stoppedAt, lostAt, delivered, stopped, lost, onward, delivery, refusal, passed}
 use Rattle.tree.specs.Demand3.{Demand3, Arrives}
 use Rattle.tree.specs.WrongHops.{AddressRule, hopBy, rulesBy, rightParts, refusesEverything, parentToAll, leaps, hostKeeps, hostDelivers, rootAsHost, lowBits, lookedShort, beforeLastBit, oneCount}
@@ -44,7 +44,7 @@ unfolding hopBy
 hopBy-header rule n {d} good a =
     let p = header d ++ [] in
     let e = reading-header a [] in
-    rw (good, eq-eqb (reading p .refusal) 0 (ap (λ (r : Reading). r .refusal) e)) (ap (λ (r : Reading). rule n (r .address)) e)
+    rw (good, eq-eqb (reading p .refusal) 0 (ap (λ (r : HeaderAnswer). r .refusal) e)) (ap (λ (r : HeaderAnswer). rule n (r .address)) e)
 
 -- ---- small trees
 
@@ -160,7 +160,7 @@ lowBits-refuted claim =
 
 -- 1 to 111 in 1, 11, 111: 1 passes it to 11, and 11 passes it back
 pub beforeLastBit-refuted : ((rs : List Request) → Demand3 childOf beforeLastBit rs) → ⊥
-unfolding beforeLastBit lookedShort opened path pathOf turn isOnWay sameSteps below
+unfolding beforeLastBit lookedShort opened path pathOf turn isAncestorOrSelf sameSteps below
 beforeLastBit-refuted claim =
     let rs = request 1 host ∷ request 1 host ∷ [] in
     let b = address 6 (lit< tt) in

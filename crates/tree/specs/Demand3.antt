@@ -5,7 +5,7 @@ use mathlib.Core.List.{List, _∷_, _++_}
 use Rattle.address.specs.Bits.{root}
 use Rattle.address.specs.Steps.{Step, steps, addressOf}
 use Rattle.address.specs.Address.{depth}
-use Rattle.address.specs.Reading.{IsAddress}
+use Rattle.address.specs.Numbers.{IsAddress}
 use Rattle.octets.specs.Octets.{AreOctets}
 use Rattle.header.specs.Header.{header}
 use Rattle.route.specs.Path.{path, hops}

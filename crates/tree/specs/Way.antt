@@ -7,12 +7,12 @@ use mathlib.Core.List.{List, [], _∷_}
 use Rattle.octets.specs.Octets.{AreOctets}
 use Rattle.header.specs.Header.{reading, found}
 use Rattle.node.specs.declared.Node.{Node}
-use Rattle.forward.specs.Forward.{Action, delivers, toParent, toChild, stops, Answer}
+use Rattle.forward.specs.Forward.{Action, deliver, toParent, toChild, stop, HopAnswer}
 use Rattle.tree.specs.Tree.{Tree, standing, recordOf, InTree}
 
 -- a rule for the next hop: what a record answers for some octets
 abbrev pub HopRule : Type 0
-HopRule = Node → List ℕ → Answer
+HopRule = Node → List ℕ → HopAnswer
 
 -- what an answer does to a packet
 pub data Fate : Type 0 where
@@ -21,17 +21,17 @@ pub data Fate : Type 0 where
   passed : ℕ → Fate
 
 unfoldable pub fateOf : Action → ℕ → Fate
-fateOf delivers x = delivery
+fateOf deliver x = delivery
 fateOf toParent x = passed x
 fateOf toChild x = passed x
-fateOf stops x = refusal 0
+fateOf stop x = refusal 0
 
 unfoldable pub fateBy : ℕ → Action → ℕ → Fate
 fateBy zero action x = fateOf action x
 fateBy (suc n) action x = refusal (suc n)
 
-unfoldable pub fate : Answer → Fate
-fate r = fateBy (r .refusal) (r .action) (r .node)
+unfoldable pub fate : HopAnswer → Fate
+fate r = fateBy (r .refusal) (r .action) (r .named)
 
 -- how and where a way ends
 pub data End : Type 0 where

@@ -8,7 +8,7 @@ use Rattle.address.specs.Bits.{bits, number, longest}
 use Rattle.address.specs.Steps.{child, stepBits}
 use Rattle.address.specs.Address.{bitLength, isHost, endsInOne}
 use Rattle.address.specs.declared.Kind.the-variants.{Router}
-use Rattle.node.specs.Node.{addressIn, addressAt, count, raised, isGood, childBits, refuse, childOf}
+use Rattle.node.specs.Node.{addressIn, addressAt, count, raised, isGood, childBits, refuseChild, childOf}
 use Rattle.tree.specs.Tree.{ChildRule}
 
 -- "One that hands every child the same address": 10, whichever node is asked; it refuses and counts as the right rule does
@@ -20,9 +20,9 @@ sameChild n kind =
 -- "using one count for both kinds": the count of routers counts every child, and a child of either kind takes its ones
 unfoldable pub oneCount : ChildRule
 oneCount n kind =
-    if not (isGood n) then refuse 1 n
-    else if isHost (addressIn n) then refuse 2 n
-    else if ltb longest (length (bits (addressIn n) ++ stepBits (child kind (count Router n)))) then refuse 3 n
+    if not (isGood n) then refuseChild 1 n
+    else if isHost (addressIn n) then refuseChild 2 n
+    else if ltb longest (length (bits (addressIn n) ++ stepBits (child kind (count Router n)))) then refuseChild 3 n
     else record {
       node = raised Router n;
       child = addressAt (number (bits (addressIn n) ++ stepBits (child kind (count Router n))));
@@ -32,19 +32,19 @@ oneCount n kind =
 -- "Testing the length limit on the parent instead of the child"
 unfoldable pub limitOnParent : ChildRule
 limitOnParent n kind =
-    if not (isGood n) then refuse 1 n
-    else if isHost (addressIn n) then refuse 2 n
-    else if ltb longest (bitLength (addressIn n)) then refuse 3 n
+    if not (isGood n) then refuseChild 1 n
+    else if isHost (addressIn n) then refuseChild 2 n
+    else if ltb longest (bitLength (addressIn n)) then refuseChild 3 n
     else record { node = raised kind n; child = addressAt (number (childBits n kind)); refusal = 0 }
 
 -- "One that refuses everything"
 unfoldable pub refusesAll : ChildRule
-refusesAll n kind = refuse 3 n
+refusesAll n kind = refuseChild 3 n
 
 -- "Calling the root a host because it ends in 1."
 unfoldable pub rootAsHost : ChildRule
 rootAsHost n kind =
-    if not (isGood n) then refuse 1 n
-    else if endsInOne (bits (addressIn n)) then refuse 2 n
-    else if ltb longest (length (childBits n kind)) then refuse 3 n
+    if not (isGood n) then refuseChild 1 n
+    else if endsInOne (bits (addressIn n)) then refuseChild 2 n
+    else if ltb longest (length (childBits n kind)) then refuseChild 3 n
     else record { node = raised kind n; child = addressAt (number (childBits n kind)); refusal = 0 }

@@ -14,25 +14,25 @@ use Rattle.address.specs.declared.Kind.the-variants.{Router as router}
 use Rattle.header.specs.Header.{reading}
 use Rattle.node.specs.Node.{addressIn, count, isGood}
 use Rattle.node.specs.declared.Node.{Node}
-use Rattle.forward.specs.Forward.{Answer, delivered, upTo, downTo, refused, rules}
+use Rattle.forward.specs.Forward.{HopAnswer, deliverAt, upTo, downTo, refusedHop, rules}
 use Rattle.tree.specs.Way.{HopRule}
 
 -- a rule for the next hop from an address
 abbrev pub AddressRule : Type 0
-AddressRule = Node → ℕ → Answer
+AddressRule = Node → ℕ → HopAnswer
 
 -- from octets, as `packetHop` is from `nextHop`
 unfoldable pub hopBy : AddressRule → HopRule
 hopBy rule n p =
-    if not (isGood n) then refused 1
-    else if not (eqb (reading p .refusal) 0) then refused (reading p .refusal)
+    if not (isGood n) then refusedHop 1
+    else if not (eqb (reading p .refusal) 0) then refusedHop (reading p .refusal)
     else rule n (reading p .address)
 
 -- ---- impostors
 
 -- "One that refuses everything"
 unfoldable pub refusesEverything : HopRule
-refusesEverything = hopBy (λ n d. refused 7)
+refusesEverything = hopBy (λ n d. refusedHop 7)
 
 -- "one that says 'parent' to all"
 unfoldable pub parentToAll : HopRule
@@ -40,7 +40,7 @@ parentToAll = hopBy (λ n d. upTo (parent (addressIn n)))
 
 -- "One that leaps to the destination in its first hop"
 unfoldable pub leaps : HopRule
-leaps = hopBy (λ n d. if eqb d (addressIn n) then delivered (addressIn n) else downTo d)
+leaps = hopBy (λ n d. if eqb d (addressIn n) then deliverAt (addressIn n) else downTo d)
 
 -- ---- slips
 
@@ -54,13 +54,13 @@ pub record Parts : Type 0 where
 -- `rules`, by these parts
 unfoldable pub rulesBy : Parts → AddressRule
 rulesBy parts n d =
-    if eqb d (addressIn n) then delivered (addressIn n)
+    if eqb d (addressIn n) then deliverAt (addressIn n)
     else if parts .host (addressIn n) then upTo (parent (addressIn n))
     else if not (parts .begins (bits (addressIn n)) (bits d)) then upTo (parent (addressIn n))
     else (
     let looked = parts .look (drop (bitLength (addressIn n)) (bits d)) in
     if ltb (indexLooked looked) (parts .counted (kindLooked looked) n) then downTo (number (bits (addressIn n) ++ looked))
-    else refused 7
+    else refusedHop 7
     )
 
 -- with these they are the right ones
@@ -75,7 +75,7 @@ hostKeeps = hopBy (rulesBy (record { host = λ c. false; begins = isPrefix; look
 -- the same slip where 11 takes such a packet for its own
 unfoldable pub hostDelivers : HopRule
 hostDelivers =
-    hopBy (λ n d. if isHost (addressIn n) && isPrefix (bits (addressIn n)) (bits d) then delivered (addressIn n) else rules n d)
+    hopBy (λ n d. if isHost (addressIn n) && isPrefix (bits (addressIn n)) (bits d) then deliverAt (addressIn n) else rules n d)
 
 -- "Calling the root a host because it ends in 1."
 unfoldable pub rootAsHost : HopRule

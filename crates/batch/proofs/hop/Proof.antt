@@ -7,13 +7,13 @@ use native.Mathlib.Nat.{pos-of-ne-zero}
 use native.Mathlib.Omega.{arith}
 use borrow.Author.Tests.{not-true, not-false}
 use Rattle.address.specs.Address.{bitLength, isHost, parent}
-use Rattle.address.specs.Reading.{IsAddress}
-use Rattle.search.specs.Search.{prefix}
-use Rattle.search.proofs.Prefixes.{no-prefix, prefix-isPrefix}
+use Rattle.address.specs.Numbers.{IsAddress}
+use Rattle.search.specs.Search.{firstBits}
+use Rattle.search.proofs.Prefixes.{no-prefix, firstBits-isPrefix}
 use Rattle.node.specs.Node.{addressIn, isGood}
 use Rattle.node.proofs.Children.{address-good}
-use Rattle.forward.specs.Forward.{delivered, upTo, nextHop}
-use Rattle.batch.specs.Hops.{hopAnswer, actionNumber}
+use Rattle.forward.specs.Forward.{deliverAt, upTo, nextHop}
+use Rattle.batch.specs.Exported.{pasaHop, actionNumber}
 use Rattle.forward.proofs.Rules.{nextHop-bad, nextHop-zero, nextHop-same, nextHop-host, nextHop-elsewhere, nextHop-below}
 use borrow.Author.Needs.{needs}
 use Rattle.batch.proofs.hop.Statement.{statement}
@@ -30,33 +30,33 @@ there : (c : tie.Else2) → IsAddress (c .before .before .before .before .args .
 there c = record { some = pos-of-ne-zero (c .if2 .left); fits = omega arith }
 
 -- the prefix that is compared
-abbrev start : tie.After-prefix → tie.Start
+abbrev start : tie.After-first-bits → tie.Start
 start c = c .before .before .before .before .before .before .before .before .before .before .before .before
 
-compared : (c : tie.After-prefix) → c .prefix .result .number ≡ prefix (bitLength (start c .args .node .address .number)) (start c .args .destination .number)
-compared c = c .prefix .ensures ∙ ap (λ (k : ℕ). prefix k (start c .args .destination .number)) (c .before .bit-length .ensures)
+compared : (c : tie.After-first-bits) → c .first-bits .result .number ≡ firstBits (bitLength (start c .args .node .address .number)) (start c .args .destination .number)
+compared c = c .first-bits .ensures ∙ ap (λ (k : ℕ). firstBits k (start c .args .destination .number)) (c .before .bit-length .ensures)
 
 is-good-requires : tie.Need-is-good-requires
 is-good-requires c κs = search needs
 
 returns : tie.Need-returns
-unfolding hopAnswer actionNumber
+unfolding pasaHop actionNumber
 returns c =
     let at = c .before .before in
-    sym (ap hopAnswer (nextHop-bad (at .args .node) (at .args .destination .number) (sym (c .before .is-good .ensures) ∙ not-true (c .before .is-good .result) (c .if1 .taken))))
+    sym (ap pasaHop (nextHop-bad (at .args .node) (at .args .destination .number) (sym (c .before .is-good .ensures) ∙ not-true (c .before .is-good .result) (c .if1 .taken))))
 
 returns-2 : tie.Need-returns-2
-unfolding hopAnswer actionNumber
+unfolding pasaHop actionNumber
 returns-2 c =
     let at = c .before .before .before .before in
-    sym (ap hopAnswer (nextHop-zero (at .args .node) (at .args .destination .number) (good (c .before .before)) (c .if2 .taken)))
+    sym (ap pasaHop (nextHop-zero (at .args .node) (at .args .destination .number) (good (c .before .before)) (c .if2 .taken)))
 
 returns-3 : tie.Need-returns-3
-unfolding hopAnswer actionNumber
+unfolding pasaHop actionNumber
 returns-3 c =
     let some = c .before .before .before .before in
     let at = some .before .before .before .before in
-    sym (ap hopAnswer (nextHop-same (at .args .node) (at .args .destination .number) (good (some .before .before)) (some .if2 .left) (c .if3 .taken)))
+    sym (ap pasaHop (nextHop-same (at .args .node) (at .args .destination .number) (good (some .before .before)) (some .if2 .left) (c .if3 .taken)))
 
 is-host-requires : tie.Need-is-host-requires
 is-host-requires c κs = search needs
@@ -65,33 +65,33 @@ parent-requires : tie.Need-parent-requires
 parent-requires c κs = search needs
 
 returns-4 : tie.Need-returns-4
-unfolding hopAnswer actionNumber
+unfolding pasaHop actionNumber
 returns-4 c =
     let other = c .before .before .before in
     let some = other .before .before .before .before in
     let at = some .before .before .before .before in
-    ap (λ (x : ℕ). hopAnswer (upTo x)) (c .parent .ensures)
-    ∙ sym (ap hopAnswer (nextHop-host (at .args .node) (at .args .destination .number) (good (some .before .before)) (some .if2 .left) (other .if3 .left)
+    ap (λ (x : ℕ). pasaHop (upTo x)) (c .parent .ensures)
+    ∙ sym (ap pasaHop (nextHop-host (at .args .node) (at .args .destination .number) (good (some .before .before)) (some .if2 .left) (other .if3 .left)
     (sym (c .before .before .is-host .ensures) ∙ c .before .if4 .taken)))
 
 bit-length-requires : tie.Need-bit-length-requires
 bit-length-requires c κs = search needs
 
-prefix-requires : tie.Need-prefix-requires
-prefix-requires c κs = search needs
+first-bits-requires : tie.Need-first-bits-requires
+first-bits-requires c κs = search needs
 
 parent-requires-2 : tie.Need-parent-requires-2
 parent-requires-2 c κs = search needs
 
 returns-5 : tie.Need-returns-5
-unfolding hopAnswer actionNumber
+unfolding pasaHop actionNumber
 returns-5 c =
     let inner = c .before .before .before .before .before .before in
     let other = inner .before .before in
     let some = other .before .before .before .before in
     let at = some .before .before .before .before in
-    ap (λ (x : ℕ). hopAnswer (upTo x)) (c .parent2 .ensures)
-    ∙ sym (ap hopAnswer (nextHop-elsewhere (at .args .node) (at .args .destination .number) (good (some .before .before)) (some .if2 .left) (other .if3 .left)
+    ap (λ (x : ℕ). pasaHop (upTo x)) (c .parent2 .ensures)
+    ∙ sym (ap pasaHop (nextHop-elsewhere (at .args .node) (at .args .destination .number) (good (some .before .before)) (some .if2 .left) (other .if3 .left)
     (sym (inner .before .is-host .ensures) ∙ inner .if4 .left)
     (no-prefix (here (other .before .before)) (there some) (λ e. c .before .if5 .taken (compared (c .before .before .before .before) ∙ e)))))
 
@@ -102,7 +102,7 @@ toward-requires c κs =
     let some = other .before .before .before .before in
     let a = here (other .before .before) in
     let b = there some in
-    (a, (b, (sym (inner .before .is-host .ensures) ∙ inner .if4 .left, (prefix-isPrefix a b (sym (compared (c .before .before .before)) ∙ c .if5 .left), other .if3 .left))))
+    (a, (b, (sym (inner .before .is-host .ensures) ∙ inner .if4 .left, (firstBits-isPrefix a b (sym (compared (c .before .before .before)) ∙ c .if5 .left), other .if3 .left))))
 
 returns-6 : tie.Need-returns-6
 returns-6 c =
@@ -114,9 +114,9 @@ returns-6 c =
     let a = here (other .before .before) in
     let b = there some in
     c .toward .ensures
-    ∙ sym (ap hopAnswer (nextHop-below (at .args .node) (at .args .destination .number) (good (some .before .before)) (some .if2 .left) (other .if3 .left)
+    ∙ sym (ap pasaHop (nextHop-below (at .args .node) (at .args .destination .number) (good (some .before .before)) (some .if2 .left) (other .if3 .left)
     (sym (inner .before .is-host .ensures) ∙ inner .if4 .left)
-    (prefix-isPrefix a b (sym (compared (left .before .before .before)) ∙ left .if5 .left))))
+    (firstBits-isPrefix a b (sym (compared (left .before .before .before)) ∙ left .if5 .left))))
 
 pub hop-spec : {M : Type 1} → statement M
 hop-spec =
@@ -130,7 +130,7 @@ hop-spec =
     parent-requires
     returns-4
     bit-length-requires
-    prefix-requires
+    first-bits-requires
     parent-requires-2
     returns-5
     toward-requires

@@ -7,8 +7,8 @@ use native.Mathlib.Omega.{arith}
 use lib.ListN.{length, getD}
 use borrow.Author.Needs.{needs}
 use Rattle.forward.specs.Forward.{nextHop}
-use Rattle.batch.specs.Hops.{HopAnswer, hopAnswer}
-use Rattle.batch.specs.Batch.{hopFor, nodeFor, actionFor, refusalFor, firstHops, shortest, hopsOf}
+use Rattle.batch.specs.Exported.{PasaHop, pasaHop}
+use Rattle.batch.specs.Batch.{hopFor, nodeFor, actionFor, refusalFor, firstHops, shortest, nextHops}
 use Rattle.batch.proofs.Front.{Within, within, Stands, stands-zero, stands-next}
 use Rattle.batch.proofs.next_hops.Statement.{statement}
 use Rattle.batch.proofs.next_hops.Tie as tie
@@ -89,7 +89,7 @@ stored : (c : tie.After-hop Inv-loop μ-loop)
 unfolding hopFor
 stored c =
     let args = start (c .before .before .before .before .before) .args in
-    c .hop .ensures ∙ ap (λ (d : ℕ). hopAnswer (nextHop (args .node) d)) (c .before .of .ensures)
+    c .hop .ensures ∙ ap (λ (d : ℕ). pasaHop (nextHop (args .node) d)) (c .before .of .ensures)
 
 loop-again : tie.Need-loop-again Inv-loop μ-loop
 loop-again c =
@@ -97,9 +97,9 @@ loop-again c =
     let inv = turn .before .loop .inv in
     let at = place turn in (
       omega arith,
-      stands-next (inv .1) (omega (arith, at .first)) (omega (arith, at .second)) (ap (λ (h : HopAnswer). h .node) (stored c)),
-      stands-next (inv .2) (omega (arith, at .first)) (omega (arith, at .third)) (ap (λ (h : HopAnswer). h .action) (stored c)),
-      stands-next (inv .3) (omega (arith, at .first)) (omega (arith, at .fourth)) (ap (λ (h : HopAnswer). h .refusal) (stored c)),
+      stands-next (inv .1) (omega (arith, at .first)) (omega (arith, at .second)) (ap (λ (h : PasaHop). h .node) (stored c)),
+      stands-next (inv .2) (omega (arith, at .first)) (omega (arith, at .third)) (ap (λ (h : PasaHop). h .action) (stored c)),
+      stands-next (inv .3) (omega (arith, at .first)) (omega (arith, at .fourth)) (ap (λ (h : PasaHop). h .refusal) (stored c)),
     )
 
 same-length : tie.Need-same-length Inv-loop μ-loop
@@ -112,7 +112,7 @@ same-length-3 : tie.Need-same-length-3 Inv-loop μ-loop
 same-length-3 c = c .before .loop .inv .3 .same
 
 returns : tie.Need-returns Inv-loop μ-loop
-unfolding hopsOf firstHops shortest
+unfolding nextHops firstHops shortest
 returns c =
     let inv = c .before .loop .inv in
     let all : c .before .loop .i ≡ c .before .before .least3 .result = omega arith in

@@ -12,15 +12,15 @@ use Rattle.address.specs.declared.Kind.the-variants.{Router, Host}
 use Rattle.address.specs.Choice.{if_then_else_}
 use Rattle.address.specs.Bits.{Bit, bits}
 use Rattle.address.specs.Address.{bitLength}
-use Rattle.search.specs.Search.{lookedAt, childEnd, prefix, kindLooked, indexLooked}
+use Rattle.search.specs.Search.{lookedAt, childEnd, firstBits, kindLooked, indexLooked}
 use Rattle.address.proofs.Numbers.{bitLength-le}
-use Rattle.search.proofs.SearchLaws.{prefix-shr}
+use Rattle.search.proofs.SearchLaws.{firstBits-shr}
 use Rattle.node.specs.Node.{count}
 use Rattle.forward.specs.Forward.{downTo, toward}
 use Rattle.forward.proofs.Rules.{toward-given, toward-absent}
-use Rattle.forward.proofs.Looked.{looked-some, childEnd-looked, prefix-looked, kind-looked}
+use Rattle.forward.proofs.Looked.{looked-some, childEnd-looked, firstBits-looked, kind-looked}
 use borrow.Author.Needs.{needs}
-use Rattle.batch.specs.Hops.{hopAnswer, actionNumber}
+use Rattle.batch.specs.Exported.{pasaHop, actionNumber}
 use Rattle.batch.proofs.Ends.{lookedAt-within}
 use Rattle.batch.proofs.toward.Statement.{statement}
 use Rattle.batch.proofs.toward.Tie as tie
@@ -50,11 +50,11 @@ inside c =
 abbrev start : tie.After-of → tie.Start
 start c = c .before .before .before .before .before
 
-child : (c : tie.After-of) → c .of .result .number ≡ prefix (childEnd (bitLength (start c .args .node .address .number)) (bits (start c .args .destination .number))) (start c .args .destination .number)
+child : (c : tie.After-of) → c .of .result .number ≡ firstBits (childEnd (bitLength (start c .args .node .address .number)) (bits (start c .args .destination .number))) (start c .args .destination .number)
 child c =
     c .of .ensures
-    ∙ sym (prefix-shr _ (omega arith) (c .before .before .bit-length2 .ensures))
-    ∙ ap (λ (k : ℕ). prefix k (start c .args .destination .number)) (ends (c .before .before .before))
+    ∙ sym (firstBits-shr _ (omega arith) (c .before .before .bit-length2 .ensures))
+    ∙ ap (λ (k : ℕ). firstBits k (start c .args .destination .number)) (ends (c .before .before .before))
 
 -- how many children of its kind were given
 counted : (c : tie.After-count) → c .count .result ≡ count (kindLooked (looked (start (c .before .before)))) (start (c .before .before) .args .node)
@@ -102,20 +102,20 @@ cast-if1 : tie.Need-cast-if1
 cast-if1 c = search needs
 
 returns : tie.Need-returns
-unfolding hopAnswer actionNumber indexLooked
+unfolding pasaHop actionNumber indexLooked
 returns c =
     let found = c .before .before .before in
     let at = start found in
     let (a, (b, (h, (p, other)))) = at .pre in
-    ap (λ (x : ℕ). hopAnswer (downTo x)) (child found ∙ prefix-looked a b h p other)
-    ∙ sym (ap hopAnswer (toward-given (at .args .node) (looked at) (omega (arith, end (found .before .before .before), counted (c .before)))))
+    ap (λ (x : ℕ). pasaHop (downTo x)) (child found ∙ firstBits-looked a b h p other)
+    ∙ sym (ap pasaHop (toward-given (at .args .node) (looked at) (omega (arith, end (found .before .before .before), counted (c .before)))))
 
 returns-2 : tie.Need-returns-2
-unfolding hopAnswer actionNumber indexLooked
+unfolding pasaHop actionNumber indexLooked
 returns-2 c =
     let found = c .before .before .before in
     let at = start found in
-    sym (ap hopAnswer (toward-absent (at .args .node) (looked at) (omega (arith, end (found .before .before .before), counted (c .before)))))
+    sym (ap pasaHop (toward-absent (at .args .node) (looked at) (omega (arith, end (found .before .before .before), counted (c .before)))))
 
 pub toward-spec : {M : Type 1} → statement M
 toward-spec =

@@ -7,12 +7,12 @@ use native.Mathlib.Nat.{pos-of-ne-zero}
 use native.Mathlib.Omega.{arith}
 use borrow.Author.Tests.{not-true, not-false}
 use Rattle.address.specs.Address.{bitLength, isHost, parent}
-use Rattle.address.specs.Reading.{IsAddress}
-use Rattle.search.specs.Search.{prefix}
-use Rattle.search.proofs.Prefixes.{no-prefix, prefix-isPrefix}
+use Rattle.address.specs.Numbers.{IsAddress}
+use Rattle.search.specs.Search.{firstBits}
+use Rattle.search.proofs.Prefixes.{no-prefix, firstBits-isPrefix}
 use Rattle.node.specs.Node.{addressIn, isGood}
 use Rattle.node.proofs.Children.{address-good}
-use Rattle.forward.specs.Forward.{answer, delivered, upTo, nextHop}
+use Rattle.forward.specs.Forward.{hopAnswer, deliverAt, upTo, nextHop}
 use Rattle.forward.proofs.Rules.{nextHop-bad, nextHop-zero, nextHop-same, nextHop-host, nextHop-elsewhere, nextHop-below}
 use borrow.Author.Needs.{needs}
 use Rattle.forward.proofs.next_hop.Statement.{statement}
@@ -22,7 +22,7 @@ use Rattle.forward.proofs.next_hop.Lts as lts
 use Rattle.address.proofs.Address.bit_length.Reads as bit-length-reads
 use Rattle.address.proofs.Address.is_host.Reads as is-host-reads
 use Rattle.address.proofs.Address.parent.Reads as parent-reads
-use Rattle.search.proofs.prefix.Reads as prefix-reads
+use Rattle.search.proofs.first_bits.Reads as first-bits-reads
 use Rattle.forward.proofs.toward.Reads as toward-reads
 use Rattle.node.proofs.Node.is_good.Reads as is-good-reads
 
@@ -37,29 +37,29 @@ there : (c : tie.Else2) → IsAddress (c .before .before .before .before .args .
 there c = record { some = pos-of-ne-zero (c .if2 .left); fits = omega arith }
 
 -- the prefix that is compared
-abbrev start : tie.After-prefix → tie.Start
+abbrev start : tie.After-first-bits → tie.Start
 start c = c .before .before .before .before .before .before .before .before .before .before .before .before
 
-compared : (c : tie.After-prefix) → c .prefix .result .number ≡ prefix (bitLength (start c .args .node .address .number)) (start c .args .destination .number)
-compared c = c .prefix .ensures ∙ ap (λ (k : ℕ). prefix k (start c .args .destination .number)) (c .before .bit-length .ensures)
+compared : (c : tie.After-first-bits) → c .first-bits .result .number ≡ firstBits (bitLength (start c .args .node .address .number)) (start c .args .destination .number)
+compared c = c .first-bits .ensures ∙ ap (λ (k : ℕ). firstBits k (start c .args .destination .number)) (c .before .bit-length .ensures)
 
 is-good-requires : tie.Need-is-good-requires
 is-good-requires c κs = search needs
 
 returns : tie.Need-returns
-unfolding answer
+unfolding hopAnswer
 returns c =
     let at = c .before .before in
     sym (nextHop-bad (at .args .node) (at .args .destination .number) (sym (c .before .is-good .ensures) ∙ not-true (c .before .is-good .result) (c .if1 .taken)))
 
 returns-2 : tie.Need-returns-2
-unfolding answer
+unfolding hopAnswer
 returns-2 c =
     let at = c .before .before .before .before in
     sym (nextHop-zero (at .args .node) (at .args .destination .number) (good (c .before .before)) (c .if2 .taken))
 
 returns-3 : tie.Need-returns-3
-unfolding answer
+unfolding hopAnswer
 returns-3 c =
     let some = c .before .before .before .before in
     let at = some .before .before .before .before in
@@ -72,7 +72,7 @@ parent-requires : tie.Need-parent-requires
 parent-requires c κs = search needs
 
 returns-4 : tie.Need-returns-4
-unfolding answer
+unfolding hopAnswer
 returns-4 c =
     let other = c .before .before .before in
     let some = other .before .before .before .before in
@@ -84,14 +84,14 @@ returns-4 c =
 bit-length-requires : tie.Need-bit-length-requires
 bit-length-requires c κs = search needs
 
-prefix-requires : tie.Need-prefix-requires
-prefix-requires c κs = search needs
+first-bits-requires : tie.Need-first-bits-requires
+first-bits-requires c κs = search needs
 
 parent-requires-2 : tie.Need-parent-requires-2
 parent-requires-2 c κs = search needs
 
 returns-5 : tie.Need-returns-5
-unfolding answer
+unfolding hopAnswer
 returns-5 c =
     let inner = c .before .before .before .before .before .before in
     let other = inner .before .before in
@@ -109,7 +109,7 @@ toward-requires c κs =
     let some = other .before .before .before .before in
     let a = here (other .before .before) in
     let b = there some in
-    (a, (b, (sym (inner .before .is-host .ensures) ∙ inner .if4 .left, (prefix-isPrefix a b (sym (compared (c .before .before .before)) ∙ c .if5 .left), other .if3 .left))))
+    (a, (b, (sym (inner .before .is-host .ensures) ∙ inner .if4 .left, (firstBits-isPrefix a b (sym (compared (c .before .before .before)) ∙ c .if5 .left), other .if3 .left))))
 
 returns-6 : tie.Need-returns-6
 returns-6 c =
@@ -123,7 +123,7 @@ returns-6 c =
     c .toward .ensures
     ∙ sym (nextHop-below (at .args .node) (at .args .destination .number) (good (some .before .before)) (some .if2 .left) (other .if3 .left)
     (sym (inner .before .is-host .ensures) ∙ inner .if4 .left)
-    (prefix-isPrefix a b (sym (compared (left .before .before .before)) ∙ left .if5 .left)))
+    (firstBits-isPrefix a b (sym (compared (left .before .before .before)) ∙ left .if5 .left)))
 
 pub next-hop-spec : {M : Type 1} → statement M
 next-hop-spec =
@@ -137,7 +137,7 @@ next-hop-spec =
     parent-requires
     returns-4
     bit-length-requires
-    prefix-requires
+    first-bits-requires
     parent-requires-2
     returns-5
     toward-requires

@@ -12,12 +12,12 @@ use Rattle.address.specs.declared.Kind.the-variants.{Router, Host}
 use Rattle.address.specs.Choice.{if_then_else_}
 use Rattle.address.specs.Bits.{Bit, bits}
 use Rattle.address.specs.Address.{bitLength, isHost}
-use Rattle.address.specs.Reading.{IsAddress}
-use Rattle.search.specs.Search.{lookedAt, childEnd, prefix, kindLooked, indexLooked}
+use Rattle.address.specs.Numbers.{IsAddress}
+use Rattle.search.specs.Search.{lookedAt, childEnd, firstBits, kindLooked, indexLooked}
 use Rattle.node.specs.Node.{count}
-use Rattle.forward.specs.Forward.{answer, downTo, toward}
+use Rattle.forward.specs.Forward.{hopAnswer, downTo, toward}
 use Rattle.forward.proofs.Rules.{toward-given, toward-absent}
-use Rattle.forward.proofs.Looked.{looked-some, childEnd-looked, prefix-looked, kind-looked}
+use Rattle.forward.proofs.Looked.{looked-some, childEnd-looked, firstBits-looked, kind-looked}
 use borrow.Author.Needs.{needs}
 use Rattle.forward.proofs.toward.Statement.{statement}
 use Rattle.forward.proofs.toward.Tie as tie
@@ -25,7 +25,7 @@ use Rattle.forward.proofs.toward.Reads as reads
 use Rattle.forward.proofs.toward.Lts as lts
 use Rattle.address.proofs.Address.bit_length.Reads as bit-length-reads
 use Rattle.search.proofs.child_end.Reads as child-end-reads
-use Rattle.search.proofs.prefix.Reads as prefix-reads
+use Rattle.search.proofs.first_bits.Reads as first-bits-reads
 use Rattle.forward.proofs.kind_of.Reads as kind-of-reads
 use Rattle.node.proofs.Node.count.Reads as count-reads
 
@@ -44,8 +44,8 @@ end : (c : tie.After-child-end) → c .child-end .result ≡ c .before .bit-leng
 end c = let (a, (b, (h, (p, other)))) = c .before .before .pre in omega (arith, ends c, childEnd-looked a b h p other, c .before .bit-length .ensures)
 
 -- the child
-child : (c : tie.After-prefix) → c .prefix .result .number ≡ prefix (childEnd (bitLength (c .before .before .before .args .node .address .number)) (bits (c .before .before .before .args .destination .number))) (c .before .before .before .args .destination .number)
-child c = c .prefix .ensures ∙ ap (λ (k : ℕ). prefix k (c .before .before .before .args .destination .number)) (ends (c .before))
+child : (c : tie.After-first-bits) → c .first-bits .result .number ≡ firstBits (childEnd (bitLength (c .before .before .before .args .node .address .number)) (bits (c .before .before .before .args .destination .number))) (c .before .before .before .args .destination .number)
+child c = c .first-bits .ensures ∙ ap (λ (k : ℕ). firstBits k (c .before .before .before .args .destination .number)) (ends (c .before))
 
 -- how many children of its kind were given
 counted : (c : tie.After-count) → c .count .result ≡ count (kindLooked (looked (c .before .before .before .before .before))) (c .before .before .before .before .before .args .node)
@@ -60,8 +60,8 @@ bit-length-requires c κs = search needs
 child-end-requires : tie.Need-child-end-requires
 child-end-requires c κs = search needs
 
-prefix-requires : tie.Need-prefix-requires
-prefix-requires c κs = search needs
+first-bits-requires : tie.Need-first-bits-requires
+first-bits-requires c κs = search needs
 
 sub-index : tie.Need-sub-index
 sub-index c = omega (arith, end (c .before))
@@ -79,16 +79,16 @@ cast-if1 : tie.Need-cast-if1
 cast-if1 c = search needs
 
 returns : tie.Need-returns
-unfolding answer indexLooked
+unfolding hopAnswer indexLooked
 returns c =
     let found = c .before .before .before in
     let at = found .before .before .before in
     let (a, (b, (h, (p, other)))) = at .pre in
-    ap downTo (child found ∙ prefix-looked a b h p other)
+    ap downTo (child found ∙ firstBits-looked a b h p other)
     ∙ sym (toward-given (at .args .node) (looked at) (omega (arith, end (found .before), counted (c .before))))
 
 returns-2 : tie.Need-returns-2
-unfolding answer indexLooked
+unfolding hopAnswer indexLooked
 returns-2 c =
     let found = c .before .before .before in
     let at = found .before .before .before in
@@ -100,7 +100,7 @@ toward-spec =
     (tie.spec
     bit-length-requires
     child-end-requires
-    prefix-requires
+    first-bits-requires
     sub-index
     sub-index-2
     kind-of-requires

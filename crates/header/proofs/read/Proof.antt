@@ -6,7 +6,7 @@ use native.Mathlib.Omega.{arith}
 use lib.ListN.{length}
 use Rattle.octets.specs.Octets.{value, AreOctets}
 use Rattle.octets.proofs.OctetLaws.{all-octets, value-mod}
-use Rattle.header.specs.Header.{answer, found, startFault, sizeTold, addressFault, addressOctets}
+use Rattle.header.specs.Header.{headerAnswer, found, startFault, sizeTold, addressFault, addressOctets}
 use Rattle.header.proofs.Size.{sizeAllowed-le}
 use Rattle.header.proofs.Start.{startFault-length}
 use Rattle.header.proofs.Parts.{length-addressOctets, part-addressOctets, octets-addressOctets, addressFault-zero}
@@ -33,7 +33,7 @@ start-fault-requires : tie.Need-start-fault-requires
 start-fault-requires c κs = search needs
 
 returns : tie.Need-returns
-unfolding answer
+unfolding headerAnswer
 returns c = reading-start (c .before .before .before .args .packet .now) (c .before .start-fault .ensures) (c .if1 .taken)
 
 shared-slice-read-size : tie.Need-shared-slice-read-size
@@ -49,7 +49,7 @@ address-fault-requires : tie.Need-address-fault-requires
 address-fault-requires c κs = search needs
 
 returns-2 : tie.Need-returns-2
-unfolding answer sizeTold
+unfolding headerAnswer sizeTold
 returns-2 c = reading-address (c .before .before .before .before .before .before .args .packet .now) (start-right (c .before .before .before)) (c .before .address-fault .ensures) (c .if2 .taken)
 
 add-end : tie.Need-add-end
@@ -72,7 +72,7 @@ of-requires : tie.Need-of-requires
 of-requires c κs = search needs
 
 returns-3 : tie.Need-returns-3
-unfolding answer sizeTold
+unfolding headerAnswer sizeTold
 returns-3 c =
     let at = c .before .before .before in
     let p = at .before .before .before .before .before .before .args .packet .now in

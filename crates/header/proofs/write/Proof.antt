@@ -7,8 +7,8 @@ use native.Mathlib.Nat.{pos-of-ne-zero}
 use native.Mathlib.Omega.{arith}
 use lib.ListN.{length, length-set, length-take, length-drop}
 use Rattle.address.specs.Bits.{longest}
-use Rattle.octets.specs.Octets.{octets, Effect, refuseWriting, write, wrote}
-use Rattle.address.specs.Reading.{IsAddress}
+use Rattle.octets.specs.Octets.{octets, WriteEffect, refuseWriting, write, wrote}
+use Rattle.address.specs.Numbers.{IsAddress}
 use Rattle.header.specs.Header.{size, place, header}
 use Rattle.header.proofs.Size.{size-le, size-ge}
 use Rattle.header.proofs.Writing.{length-header, writing-zero, writing-short, writing-done, framed-header}
@@ -33,7 +33,7 @@ unfolding refuseWriting
 returns c =
     let at = c .before .before .before in
     let e = writing-zero (at .args .address .number) (at .args .out .now) (c .if1 .taken) in
-    (sym (ap (λ (w : Effect). w .answer) e), sym (ap (λ (w : Effect). w .buffer) e))
+    (sym (ap (λ (w : WriteEffect). w .answer) e), sym (ap (λ (w : WriteEffect). w .buffer) e))
 
 size-of-requires : tie.Need-size-of-requires
 size-of-requires c κs = search needs
@@ -46,7 +46,7 @@ unfolding refuseWriting place
 returns-2 c =
     let at = c .before .before .before .before .before in
     let e = writing-short (at .args .address .number) (at .args .out .now) (c .before .before .if1 .left) (omega (arith, c .before .size-of .ensures)) in
-    (sym (ap (λ (w : Effect). w .answer) e), sym (ap (λ (w : Effect). w .buffer) e))
+    (sym (ap (λ (w : WriteEffect). w .answer) e), sym (ap (λ (w : WriteEffect). w .buffer) e))
 
 slice-write-out : tie.Need-slice-write-out
 slice-write-out c = search needs
@@ -98,8 +98,8 @@ returns-3 c =
     let count : 3 + s ≡ length (header a) = omega (arith, length-header a, sized .size-of .ensures) in
     let many : length (put .put .last .1 .0) ≡ s = put .put .kept .1 .0 ∙ simp (length-take, length-drop, length-set) (omega arith) in
     let os : put .put .last .1 .0 ≡ octets s a = put .put .ensures ∙ ap (λ (k : ℕ). octets k a) (sym (put .put .kept .1 .0) ∙ many) in (
-      ap wrote count ∙ sym (ap (λ (w : Effect). w .answer) done),
-      framed-header out (put .put .last .1 .0) a s (sized .size-of .ensures) os room ∙ sym (ap (λ (w : Effect). w .buffer) done),
+      ap wrote count ∙ sym (ap (λ (w : WriteEffect). w .answer) done),
+      framed-header out (put .put .last .1 .0) a s (sized .size-of .ensures) os room ∙ sym (ap (λ (w : WriteEffect). w .buffer) done),
     )
 
 pub write-spec : {M : Type 1} → statement M

@@ -12,7 +12,7 @@ use Rattle.octets.specs.Octets.{value, AreOctets}
 use Rattle.octets.proofs.OctetLaws.{all-octets, take-octets, drop-octets, value-mod}
 use Rattle.octets.proofs.SameLaws.{value-injective}
 use Rattle.ipv6.specs.Form.{half, whole}
-use Rattle.ipv6.proofs.FormLaws.{reading-prefix, reading-length, reading-other, reading-same}
+use Rattle.ipv6.proofs.FormLaws.{formReading-prefix, formReading-length, formReading-other, formReading-same}
 use Rattle.ipv6.proofs.read.Statement.{statement}
 use Rattle.ipv6.proofs.read.Tie as tie
 
@@ -32,12 +32,12 @@ module _ (ipv6 : List ℕ) (all : AreOctets ipv6) (m : length ipv6 ≡ whole) wh
       ∙ value-mod (drop half ipv6) (drop-octets half ipv6 all) (omega arith)
 
 returns : tie.Need-returns
-returns c = let args = c .before .before .before .args in sym (reading-prefix (args .prefix .now) (args .ipv6 .now) (λ e. omega arith))
+returns c = let args = c .before .before .before .args in sym (formReading-prefix (args .prefix .now) (args .ipv6 .now) (λ e. omega arith))
 
 returns-2 : tie.Need-returns-2
 returns-2 c =
     let args = c .before .before .before .before .args in
-    sym (reading-length (args .prefix .now) (args .ipv6 .now) (omega arith) (λ e. omega arith))
+    sym (formReading-length (args .prefix .now) (args .ipv6 .now) (omega arith) (λ e. omega arith))
 
 slice-aggregate-get : tie.Need-slice-aggregate-get
 slice-aggregate-get c = simp length-take (omega arith)
@@ -52,7 +52,7 @@ returns-3 : tie.Need-returns-3
 returns-3 c =
     let args = c .before .before .before .before .before .before .before .before .args in
     sym
-    (reading-other (args .prefix .now) (args .ipv6 .now) (omega arith) (omega arith)
+    (formReading-other (args .prefix .now) (args .ipv6 .now) (omega arith) (omega arith)
     (λ e. c .if3 .taken (c .before .before .get .ensures ∙ ap (λ (os : List ℕ). value os % 2 ^ 64) e ∙ sym (c .before .get2 .ensures))))
 
 sub-get : tie.Need-sub-get
@@ -82,7 +82,7 @@ returns-4 c =
     let e : value (take half ipv6) % 2 ^ 64 ≡ value prefix % 2 ^ 64 = sym (test .before .before .get .ensures) ∙ test .if3 .left ∙ test .before .get2 .ensures in
     c .new .ensures
     ∙ ap made (c .before .get3 .ensures ∙ last-word ipv6 all m)
-    ∙ sym (reading-same prefix ipv6 l m (first-word ipv6 all m prefix (all-octets prefix (λ i. known .before .shared-slice-known .given i .fits)) l e))
+    ∙ sym (formReading-same prefix ipv6 l m (first-word ipv6 all m prefix (all-octets prefix (λ i. known .before .shared-slice-known .given i .fits)) l e))
 
 pub read-spec : {M : Type 1} → statement M
 read-spec =

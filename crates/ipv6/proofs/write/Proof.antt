@@ -11,7 +11,7 @@ use lib.Seq.{length-take-le, take-at, drop-at, drop-drop}
 use Rattle.octets.specs.Octets.{octets, value, AreOctets, refuseWriting, wrote, write}
 use Rattle.octets.proofs.OctetLaws.{all-octets, octets-value, value-mod}
 use Rattle.ipv6.specs.Form.{half, whole, form}
-use Rattle.ipv6.proofs.FormLaws.{length-form, writing-length, writing-zero, writing-room, writing-done}
+use Rattle.ipv6.proofs.FormLaws.{length-form, formWriting-length, formWriting-zero, formWriting-room, formWriting-done}
 use Rattle.ipv6.proofs.write.Statement.{statement}
 use Rattle.ipv6.proofs.write.Tie as tie
 
@@ -31,13 +31,13 @@ returns : tie.Need-returns
 unfolding refuseWriting
 returns c =
     let args = c .before .before .before .args in
-    rw (writing-length (args .prefix .now) (args .address .number) (args .out .now) (λ e. omega arith)) (refl, refl)
+    rw (formWriting-length (args .prefix .now) (args .address .number) (args .out .now) (λ e. omega arith)) (refl, refl)
 
 returns-2 : tie.Need-returns-2
 unfolding refuseWriting
 returns-2 c =
     let args = c .before .before .before .before .before .args in
-    rw (writing-zero (args .prefix .now) (args .address .number) (args .out .now) (omega arith) (omega arith))
+    rw (formWriting-zero (args .prefix .now) (args .address .number) (args .out .now) (omega arith) (omega arith))
     (refl, refl)
 
 returns-3 : tie.Need-returns-3
@@ -45,7 +45,7 @@ unfolding refuseWriting
 returns-3 c =
     let args = c .before .before .before .before .before .before .args in
     rw
-    (writing-room (args .prefix .now) (args .address .number) (args .out .now) (omega arith) (λ e. omega arith) (omega arith))
+    (formWriting-room (args .prefix .now) (args .address .number) (args .out .now) (omega arith) (λ e. omega arith) (omega arith))
     (refl, refl)
 
 get-requires : tie.Need-get-requires
@@ -91,7 +91,7 @@ returns-4 c =
     ∙ ap₂ octets (length-take-le half out (omega arith)) (put .before .before .get .ensures)
     ∙ octets-word prefix (all-octets prefix (λ i. known .shared-slice-known .given i .fits)) l in
     let second = ap (putMid half half (put .put .last .1 .0 ++ drop half out)) (c .before .before .put2 .ensures) in
-    rw (writing-done prefix a out l (λ e. omega arith) room) (ap wrote (sym (length-form prefix a l)), second ∙ rw first (behind prefix out a l room))
+    rw (formWriting-done prefix a out l (λ e. omega arith) room) (ap wrote (sym (length-form prefix a l)), second ∙ rw first (behind prefix out a l room))
 
 pub write-spec : {M : Type 1} → statement M
 write-spec =

@@ -9,7 +9,7 @@ use borrow.Author.Needs.{needs}
 use lib.ListN.{length, take, drop, length-append}
 use lib.Seq.{sets}
 use Rattle.octets.specs.Octets.{refuseWriting, wrote, write}
-use Rattle.address.specs.Reading.{IsAddress}
+use Rattle.address.specs.Numbers.{IsAddress}
 use Rattle.route.specs.declared.Listed.{Listed}
 use Rattle.route.specs.Path.{path, hops}
 use Rattle.route.proofs.PathLaws.{hops-path}

@@ -2,9 +2,9 @@
 use mathlib.Core.Path.{_≡_, sym, ap, _∙_}
 use mathlib.Core.Bool.{true}
 use borrow.Author.Tests.{not-true, not-false}
-use Rattle.header.specs.Header.{answer as header-answer}
+use Rattle.header.specs.Header.{headerAnswer}
 use Rattle.node.specs.Node.{isGood}
-use Rattle.forward.specs.Forward.{answer}
+use Rattle.forward.specs.Forward.{hopAnswer}
 use Rattle.packet.proofs.PacketHops.{packetHop-bad, packetHop-refused, packetHop-found}
 use borrow.Author.Needs.{needs}
 use Rattle.packet.proofs.next_hop.Statement.{statement}
@@ -22,7 +22,7 @@ is-good-requires : tie.Need-is-good-requires
 is-good-requires c κs = search needs
 
 returns : tie.Need-returns
-unfolding answer
+unfolding hopAnswer
 returns c =
     let at = c .before .before .before in
     sym (packetHop-bad (at .args .node) (at .args .packet .now) (sym (c .before .is-good .ensures) ∙ not-true (c .before .is-good .result) (c .if1 .taken)))
@@ -40,19 +40,19 @@ enum-known-number : tie.Need-enum-known-number
 enum-known-number c = search needs
 
 returns-2 : tie.Need-returns-2
-unfolding header-answer
+unfolding headerAnswer
 returns-2 c =
     let read = c .before .before .before .before in
     let at = read .before .before .before .before in
     c .next-hop .ensures
-    ∙ sym (packetHop-found (at .args .node) (at .args .packet .now) (good (read .before)) (sym (read .read .ensures) ∙ ap header-answer (c .before .before .destination .given .1)))
+    ∙ sym (packetHop-found (at .args .node) (at .args .packet .now) (good (read .before)) (sym (read .read .ensures) ∙ ap headerAnswer (c .before .before .destination .given .1)))
 
 returns-3 : tie.Need-returns-3
-unfolding answer header-answer
+unfolding hopAnswer headerAnswer
 returns-3 c =
     let read = c .before .before .before in
     let at = read .before .before .before .before in
-    sym (packetHop-refused (at .args .node) (at .args .packet .now) (good (read .before)) (sym (read .read .ensures) ∙ ap header-answer (c .before .number .given .1)))
+    sym (packetHop-refused (at .args .node) (at .args .packet .now) (good (read .before)) (sym (read .read .ensures) ∙ ap headerAnswer (c .before .number .given .1)))
 
 pub next-hop-spec : {M : Type 1} → statement M
 next-hop-spec =

@@ -4,7 +4,8 @@ use borrow.Author.Needs.{needs}
 use native.Mathlib.Omega.{arith}
 use lib.ListN.{length, length-set}
 use Rattle.address.specs.Steps.{steps}
-use Rattle.address.specs.Reading.{IsAddress, OnWay}
+use Rattle.address.specs.Numbers.{IsAddress}
+use Rattle.address.specs.Ancestors.{AncestorOrSelf}
 use Rattle.route.specs.Path.{path}
 use Rattle.route.proofs.PathLaws.{Next}
 use Rattle.route.proofs.Underway.{nextChild, next-child, Underway, underway-start, underway-less, underway-place, underway-next, underway-end}
@@ -14,7 +15,7 @@ use Rattle.route.proofs.list_down.Tie as tie
 abbrev Inv-loop : tie.InvT-loop
 Inv-loop second words₀ a₀ i₀ words a i =
     Underway (path (a₀ .number) (second .number)) words (a .number) (second .number) i
-    × OnWay (steps (a .number)) (steps (second .number))
+    × AncestorOrSelf (steps (a .number)) (steps (second .number))
     × (length words ≡ length words₀)
 
 abbrev μ-loop : tie.MeasureT-loop
@@ -31,7 +32,7 @@ next : (c : tie.Then1 Inv-loop μ-loop)
     → let at = c .before .before .before in
     let a = at .loop .a .number in
     let d = at .before .before .args .second .number in
-    Next a (nextChild a d) d × OnWay (steps (nextChild a d)) (steps d)
+    Next a (nextChild a d) d × AncestorOrSelf (steps (nextChild a d)) (steps d)
 next c = let inv = c .before .before .before .loop .inv in next-child (inv .0 .from) (inv .0 .to) (λ e. omega arith) (inv .1)
 
 mul-words : tie.Need-mul-words Inv-loop μ-loop
@@ -49,20 +50,20 @@ bit-length-requires c κs = search needs
 child-end-requires : tie.Need-child-end-requires Inv-loop μ-loop
 child-end-requires c κs = search needs
 
-prefix-requires : tie.Need-prefix-requires Inv-loop μ-loop
-prefix-requires c κs = search needs
+first-bits-requires : tie.Need-first-bits-requires Inv-loop μ-loop
+first-bits-requires c κs = search needs
 
 loop-less : tie.Need-loop-less Inv-loop μ-loop
 loop-less c =
     let inv = c .before .before .before .before .before .before .loop .inv in
-    rw (c .prefix .ensures, c .before .child-end .ensures, c .before .before .bit-length .ensures)
+    rw (c .first-bits .ensures, c .before .child-end .ensures, c .before .before .bit-length .ensures)
     (underway-less (inv .0) (next (c .before .before .before) .0))
 
 loop-again : tie.Need-loop-again Inv-loop μ-loop
 loop-again c =
     let inv = c .before .before .before .before .before .before .loop .inv in
     let on = next (c .before .before .before) in
-    rw (c .prefix .ensures, c .before .child-end .ensures, c .before .before .bit-length .ensures)
+    rw (c .first-bits .ensures, c .before .child-end .ensures, c .before .before .bit-length .ensures)
     (underway-next (inv .0) (on .0), on .1, simp length-set (inv .2))
 
 same-length : tie.Need-same-length Inv-loop μ-loop
@@ -83,7 +84,7 @@ list-down-spec =
     add-i
     bit-length-requires
     child-end-requires
-    prefix-requires
+    first-bits-requires
     loop-less
     loop-again
     same-length

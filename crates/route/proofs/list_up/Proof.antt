@@ -5,7 +5,8 @@ use native.Mathlib.Omega.{arith}
 use lib.ListN.{length, length-set}
 use Rattle.address.specs.Steps.{steps}
 use Rattle.address.specs.Address.{parent}
-use Rattle.address.specs.Reading.{IsAddress, OnWay}
+use Rattle.address.specs.Numbers.{IsAddress}
+use Rattle.address.specs.Ancestors.{AncestorOrSelf}
 use Rattle.route.specs.Path.{path}
 use Rattle.route.proofs.PathLaws.{Next}
 use Rattle.route.proofs.Underway.{next-parent, Underway, underway-start, underway-less, underway-place, underway-next, underway-end}
@@ -15,7 +16,7 @@ use Rattle.route.proofs.list_up.Tie as tie
 abbrev Inv-loop : tie.InvT-loop
 Inv-loop top words₀ a₀ i₀ words a i =
     Underway (path (a₀ .number) (top .number)) words (a .number) (top .number) i
-    × OnWay (steps (top .number)) (steps (a .number))
+    × AncestorOrSelf (steps (top .number)) (steps (a .number))
     × (length words ≡ length words₀)
 
 abbrev μ-loop : tie.MeasureT-loop
@@ -32,7 +33,7 @@ next : (c : tie.Then1 Inv-loop μ-loop)
     → let at = c .before .before .before in
     let a = at .loop .a .number in
     let d = at .before .before .args .top .number in
-    Next a (parent a) d × OnWay (steps d) (steps (parent a))
+    Next a (parent a) d × AncestorOrSelf (steps d) (steps (parent a))
 next c = let inv = c .before .before .before .loop .inv in next-parent (inv .0 .from) (inv .0 .to) (λ e. omega arith) (inv .1)
 
 mul-words : tie.Need-mul-words Inv-loop μ-loop

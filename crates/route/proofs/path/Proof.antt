@@ -5,22 +5,22 @@ use borrow.Author.Needs.{needs}
 use native.Mathlib.Omega.{arith}
 use lib.ListN.{length, length-append, length-take, length-drop, length-set}
 use lib.Seq.{drop-at}
-use Rattle.address.specs.Reading.{IsAddress}
+use Rattle.address.specs.Numbers.{IsAddress}
 use Rattle.address.proofs.Steps.{depth-range}
-use Rattle.route.specs.Path.{refuse}
+use Rattle.route.specs.Path.{refusePath}
 use Rattle.route.proofs.PathLaws.{depth-turn-first, depth-turn-second, hops-path}
 use Rattle.route.proofs.Listing.{listing-zero-first, listing-zero-second, listing-short, listing-done, Over, over, framed}
 use Rattle.route.proofs.path.Statement.{statement}
 use Rattle.route.proofs.path.Tie as tie
 
 returns : tie.Need-returns
-unfolding refuse
+unfolding refusePath
 returns c =
     let args = c .before .before .before .args in
     rw (listing-zero-first (args .first .number) (args .second .number) (args .words .now) (omega arith)) (refl, refl)
 
 returns-2 : tie.Need-returns-2
-unfolding refuse
+unfolding refusePath
 returns-2 c =
     let args = c .before .before .before .before .before .args in
     rw (listing-zero-second (args .first .number) (args .second .number) (args .words .now) (λ e. omega arith) (omega arith)) (refl, refl)
@@ -81,7 +81,7 @@ over-top c =
     over (start at .args .second .number) (up c) (hops c) (first-address at) (at .turning-point .ensures) (omega (arith, sub-up (c .before))) (omega (arith, sub-hops c))
 
 returns-3 : tie.Need-returns-3
-unfolding refuse
+unfolding refusePath
 returns-3 c =
     let args = start (c .before .before .before .before) .args in
     rw (listing-short (args .first .number) (args .second .number) (args .words .now) (λ e. omega arith) (λ e. omega arith) (omega (arith, over-top (c .before) .whole)))

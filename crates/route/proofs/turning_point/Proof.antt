@@ -7,7 +7,7 @@ use borrow.Author.Needs.{needs}
 use native.Mathlib.Omega.{arith}
 use Rattle.address.specs.Steps.{Step, steps, addressOf}
 use Rattle.address.specs.Address.{depth, parent}
-use Rattle.address.specs.Reading.{IsAddress}
+use Rattle.address.specs.Numbers.{IsAddress}
 use Rattle.address.proofs.Steps.{addressOf-steps}
 use Rattle.route.specs.Path.{turn}
 use Rattle.route.proofs.Turning.{turn-self, turn-comm}

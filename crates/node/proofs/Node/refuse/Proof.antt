@@ -2,7 +2,7 @@
 use mathlib.Core.Path.{ap}
 use Prim.Native.Nat.{ℕ}
 use borrow.Author.Needs.{needs}
-use Rattle.node.specs.Node.{addressAt, refuse}
+use Rattle.node.specs.Node.{addressAt, refuseChild}
 use Rattle.node.proofs.Node.refuse.Statement.{statement}
 use Rattle.node.proofs.Node.refuse.Tie as tie
 
@@ -10,7 +10,7 @@ of-requires : tie.Need-of-requires
 of-requires c κs = search needs
 
 returns : tie.Need-returns
-unfolding refuse
+unfolding refuseChild
 returns c =
     let args = c .before .args in
     ap (λ (k : ℕ). record { node = args .self; child = addressAt k; refusal = args .number }) (c .of .ensures)

@@ -1,8 +1,8 @@
 -- `pasa_header_read` meets its contract: each case of the answer shows the numbers that the reading promised. Assumes nothing.
 use mathlib.Core.Path.{sym, ap, _∙_}
 use Rattle.header.specs.declared.Reading.{Reading}
-use Rattle.header.specs.Header.{answer}
-use Rattle.pasa.specs.Bytes.{readAnswer}
+use Rattle.header.specs.Header.{headerAnswer}
+use Rattle.pasa.specs.Bytes.{pasaRead}
 use borrow.Author.Needs.{needs}
 use Rattle.pasa.proofs.bytes.pasa_header_read.Statement.{statement}
 use Rattle.pasa.proofs.bytes.pasa_header_read.Tie as tie
@@ -17,16 +17,16 @@ enum-known-number : tie.Need-enum-known-number
 enum-known-number c = search needs
 
 returns : tie.Need-returns
-unfolding answer readAnswer
+unfolding headerAnswer pasaRead
 returns c =
-    sym (ap (λ (h : Reading). readAnswer (answer h)) (c .before .address .given .1))
-    ∙ ap readAnswer (c .before .before .before .read .ensures)
+    sym (ap (λ (h : Reading). pasaRead (headerAnswer h)) (c .before .address .given .1))
+    ∙ ap pasaRead (c .before .before .before .read .ensures)
 
 returns-2 : tie.Need-returns-2
-unfolding answer readAnswer
+unfolding headerAnswer pasaRead
 returns-2 c =
-    sym (ap (λ (h : Reading). readAnswer (answer h)) (c .before .number .given .1))
-    ∙ ap readAnswer (c .before .before .before .read .ensures)
+    sym (ap (λ (h : Reading). pasaRead (headerAnswer h)) (c .before .number .given .1))
+    ∙ ap pasaRead (c .before .before .before .read .ensures)
 
 pub pasa-header-read-spec : {M : Type 1} → statement M
 pasa-header-read-spec =

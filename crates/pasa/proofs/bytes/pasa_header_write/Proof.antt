@@ -2,7 +2,7 @@
 use mathlib.Core.Path.{ap, _∙_}
 use Prim.Native.Nat.{ℕ}
 use Rattle.header.specs.Header.{writing}
-use Rattle.pasa.specs.Bytes.{writeAnswer}
+use Rattle.pasa.specs.Bytes.{pasaWritten}
 use borrow.Author.Needs.{needs}
 use Rattle.pasa.proofs.bytes.pasa_header_write.Statement.{statement}
 use Rattle.pasa.proofs.bytes.pasa_header_write.Tie as tie
@@ -13,8 +13,8 @@ of-requires c κs = search needs
 write-requires : tie.Need-write-requires
 write-requires c κs = search needs
 
-write-answer-requires : tie.Need-write-answer-requires
-write-answer-requires c κs = search needs
+pasa-written-requires : tie.Need-pasa-written-requires
+pasa-written-requires c κs = search needs
 
 same-length : tie.Need-same-length
 same-length c = search needs
@@ -24,10 +24,10 @@ returns c =
     let written = c .before .before .before in
     let at = written .before .before in
     let buffer = at .before .before .args .out .now in (
-      c .write-answer .ensures ∙ ap writeAnswer (written .write .ensures .0 ∙ ap (λ (a : ℕ). writing a buffer .answer) (at .of .ensures)),
+      c .pasa-written .ensures ∙ ap pasaWritten (written .write .ensures .0 ∙ ap (λ (a : ℕ). writing a buffer .answer) (at .of .ensures)),
       written .write .ensures .1 ∙ ap (λ (a : ℕ). writing a buffer .buffer) (at .of .ensures),
     )
 
 pub pasa-header-write-spec : {M : Type 1} → statement M
 pasa-header-write-spec =
-    tie.close (tie.spec of-requires write-requires write-answer-requires same-length returns)
+    tie.close (tie.spec of-requires write-requires pasa-written-requires same-length returns)

@@ -1,8 +1,8 @@
 -- `pasa_ipv6_read` meets its contract: each case of the answer shows the numbers that the reading promised. Assumes nothing.
 use mathlib.Core.Path.{sym, ap, _∙_}
-use Rattle.address.specs.Address.{answer}
+use Rattle.address.specs.Address.{madeAnswer}
 use Rattle.address.specs.declared.Made.{Made}
-use Rattle.pasa.specs.Bytes.{formAnswer}
+use Rattle.pasa.specs.Bytes.{pasaAddress}
 use borrow.Author.Needs.{needs}
 use Rattle.pasa.proofs.bytes.pasa_ipv6_read.Statement.{statement}
 use Rattle.pasa.proofs.bytes.pasa_ipv6_read.Tie as tie
@@ -17,16 +17,16 @@ enum-known-number : tie.Need-enum-known-number
 enum-known-number c = search needs
 
 returns : tie.Need-returns
-unfolding formAnswer
+unfolding pasaAddress
 returns c =
-    sym (ap (λ (h : Made). formAnswer (answer h)) (c .before .address .given .1))
-    ∙ ap formAnswer (c .before .before .before .read .ensures)
+    sym (ap (λ (h : Made). pasaAddress (madeAnswer h)) (c .before .address .given .1))
+    ∙ ap pasaAddress (c .before .before .before .read .ensures)
 
 returns-2 : tie.Need-returns-2
-unfolding formAnswer
+unfolding pasaAddress
 returns-2 c =
-    sym (ap (λ (h : Made). formAnswer (answer h)) (c .before .number .given .1))
-    ∙ ap formAnswer (c .before .before .before .read .ensures)
+    sym (ap (λ (h : Made). pasaAddress (madeAnswer h)) (c .before .number .given .1))
+    ∙ ap pasaAddress (c .before .before .before .read .ensures)
 
 pub pasa-ipv6-read-spec : {M : Type 1} → statement M
 pasa-ipv6-read-spec =

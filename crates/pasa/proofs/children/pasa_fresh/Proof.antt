@@ -1,7 +1,7 @@
 -- `pasa_fresh` meets its contract, by those of the functions that it calls. Assumes nothing.
 use mathlib.Core.Path.{ap, _∙_}
 use Rattle.node.specs.Node.{fresh}
-use Rattle.pasa.specs.Children.{recordOf}
+use Rattle.pasa.specs.Children.{pasaNode}
 use borrow.Author.Needs.{needs}
 use Rattle.pasa.proofs.children.pasa_fresh.Statement.{statement}
 use Rattle.pasa.proofs.children.pasa_fresh.Tie as tie
@@ -12,12 +12,12 @@ of-requires c κs = search needs
 fresh-requires : tie.Need-fresh-requires
 fresh-requires c κs = search needs
 
-record-of-requires : tie.Need-record-of-requires
-record-of-requires c κs = search needs
+pasa-node-requires : tie.Need-pasa-node-requires
+pasa-node-requires c κs = search needs
 
 returns : tie.Need-returns
 returns c =
-    let made = c .before in c .record-of .ensures ∙ ap recordOf (made .fresh .ensures ∙ ap fresh (made .before .of .ensures))
+    let made = c .before in c .pasa-node .ensures ∙ ap pasaNode (made .fresh .ensures ∙ ap fresh (made .before .of .ensures))
 
 pub pasa-fresh-spec : {M : Type 1} → statement M
-pasa-fresh-spec = tie.close (tie.spec of-requires fresh-requires record-of-requires returns)
+pasa-fresh-spec = tie.close (tie.spec of-requires fresh-requires pasa-node-requires returns)

@@ -1,8 +1,8 @@
 -- `pasa_path` meets its contract, by that of the path call. Assumes nothing.
 use mathlib.Core.Path.{ap, _∙_}
 use Prim.Native.Nat.{ℕ}
-use Rattle.route.specs.Path.{Effect, listing}
-use Rattle.pasa.specs.Paths.{pathAnswer}
+use Rattle.route.specs.Path.{PathEffect, listing}
+use Rattle.pasa.specs.Paths.{pasaListed}
 use borrow.Author.Needs.{needs}
 use Rattle.pasa.proofs.paths.pasa_path.Statement.{statement}
 use Rattle.pasa.proofs.paths.pasa_path.Tie as tie
@@ -20,7 +20,7 @@ same-length : tie.Need-same-length
 same-length c = search needs
 
 returns : tie.Need-returns
-unfolding pathAnswer
+unfolding pasaListed
 returns c =
     let listed = c .before .before in
     let second = listed .before .before in
@@ -29,8 +29,8 @@ returns c =
     let words = args .words .now in
     let d = second .of2 .result .number in
     let both = ap (λ (a : ℕ). listing a d words) (first .of .ensures) ∙ ap (λ (b : ℕ). listing (args .first) b words) (second .of2 .ensures) in (
-      ap pathAnswer (listed .path .ensures .0 ∙ ap (λ (e : Effect). e .answer) both),
-      listed .path .ensures .1 ∙ ap (λ (e : Effect). e .words) both,
+      ap pasaListed (listed .path .ensures .0 ∙ ap (λ (e : PathEffect). e .answer) both),
+      listed .path .ensures .1 ∙ ap (λ (e : PathEffect). e .words) both,
     )
 
 pub pasa-path-spec : {M : Type 1} → statement M

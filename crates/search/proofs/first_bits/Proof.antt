@@ -3,15 +3,15 @@ use mathlib.Core.Path.{sym, _∙_}
 use borrow.Author.Needs.{needs}
 use native.Mathlib.Omega.{arith}
 use Rattle.address.proofs.Numbers.{bitLength-le}
-use Rattle.search.proofs.SearchLaws.{prefix-whole, prefix-shr-half}
-use Rattle.search.proofs.prefix.Statement.{statement}
-use Rattle.search.proofs.prefix.Tie as tie
+use Rattle.search.proofs.SearchLaws.{firstBits-whole, firstBits-shr-half}
+use Rattle.search.proofs.first_bits.Statement.{statement}
+use Rattle.search.proofs.first_bits.Tie as tie
 
 bit-length-requires : tie.Need-bit-length-requires
 bit-length-requires c κs = search needs
 
 returns : tie.Need-returns
-returns c = sym (prefix-whole _ (omega arith) (c .before .bit-length .ensures) (omega arith))
+returns c = sym (firstBits-whole _ (omega arith) (c .before .bit-length .ensures) (omega arith))
 
 sub-of : tie.Need-sub-of
 sub-of c = search needs
@@ -29,7 +29,7 @@ of-requires : tie.Need-of-requires
 of-requires c κs = search needs
 
 returns-2 : tie.Need-returns-2
-returns-2 c = c .of .ensures ∙ sym (prefix-shr-half _ (omega arith) (c .before .before .before .bit-length .ensures) (omega arith))
+returns-2 c = c .of .ensures ∙ sym (firstBits-shr-half _ (omega arith) (c .before .before .before .bit-length .ensures) (omega arith))
 
-pub prefix-spec : {M : Type 1} → statement M
-prefix-spec = tie.close (tie.spec bit-length-requires returns sub-of sub-of-2 cast-of shr-of of-requires returns-2)
+pub first-bits-spec : {M : Type 1} → statement M
+first-bits-spec = tie.close (tie.spec bit-length-requires returns sub-of sub-of-2 cast-of shr-of of-requires returns-2)

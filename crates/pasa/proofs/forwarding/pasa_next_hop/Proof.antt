@@ -3,10 +3,10 @@ use mathlib.Core.Path.{ap, _∙_}
 use Prim.Native.Nat.{ℕ}
 use Rattle.node.specs.declared.Node.{Node}
 use Rattle.forward.specs.Forward.{nextHop}
-use Rattle.batch.specs.Hops.{hopAnswer}
+use Rattle.batch.specs.Exported.{pasaHop}
 use borrow.Author.Needs.{needs}
-use Rattle.pasa.proofs.hops.pasa_next_hop.Statement.{statement}
-use Rattle.pasa.proofs.hops.pasa_next_hop.Tie as tie
+use Rattle.pasa.proofs.forwarding.pasa_next_hop.Statement.{statement}
+use Rattle.pasa.proofs.forwarding.pasa_next_hop.Tie as tie
 
 node-of-requires : tie.Need-node-of-requires
 node-of-requires c κs = search needs
@@ -17,15 +17,15 @@ of-requires c κs = search needs
 next-hop-requires : tie.Need-next-hop-requires
 next-hop-requires c κs = search needs
 
-hop-answer-requires : tie.Need-hop-answer-requires
-hop-answer-requires c κs = search needs
+pasa-hop-requires : tie.Need-pasa-hop-requires
+pasa-hop-requires c κs = search needs
 
 returns : tie.Need-returns
 returns c =
     let hopped = c .before in
     let at = hopped .before in
-    c .hop-answer .ensures ∙ ap hopAnswer (hopped .next-hop .ensures ∙ ap (λ (n : Node). nextHop n (at .of .result .number)) (at .before .node-of .ensures) ∙ ap (nextHop _) (at .of .ensures))
+    c .pasa-hop .ensures ∙ ap pasaHop (hopped .next-hop .ensures ∙ ap (λ (n : Node). nextHop n (at .of .result .number)) (at .before .node-of .ensures) ∙ ap (nextHop _) (at .of .ensures))
 
 pub pasa-next-hop-spec : {M : Type 1} → statement M
 pasa-next-hop-spec =
-    tie.close (tie.spec node-of-requires of-requires next-hop-requires hop-answer-requires returns)
+    tie.close (tie.spec node-of-requires of-requires next-hop-requires pasa-hop-requires returns)

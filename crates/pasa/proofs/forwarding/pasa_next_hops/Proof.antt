@@ -2,9 +2,9 @@
 use mathlib.Core.Path.{ap, _∙_}
 use borrow.Author.Needs.{needs}
 use Rattle.node.specs.declared.Node.{Node}
-use Rattle.batch.specs.Batch.{hopsOf}
-use Rattle.pasa.proofs.hops.pasa_next_hops.Statement.{statement}
-use Rattle.pasa.proofs.hops.pasa_next_hops.Tie as tie
+use Rattle.batch.specs.Batch.{nextHops}
+use Rattle.pasa.proofs.forwarding.pasa_next_hops.Statement.{statement}
+use Rattle.pasa.proofs.forwarding.pasa_next_hops.Tie as tie
 
 node-of-requires : tie.Need-node-of-requires
 node-of-requires c κs = search needs
@@ -27,7 +27,7 @@ returns c =
     let at = hopped .before .before .before .before in
     let args = at .before .before .before .before .before .args in
     hopped .next-hops .ensures
-    ∙ ap (λ (n : Node). hopsOf n (args .destinations .now) (args .nodes .now) (args .actions .now) (args .refusals .now)) (at .node-of .ensures)
+    ∙ ap (λ (n : Node). nextHops n (args .destinations .now) (args .nodes .now) (args .actions .now) (args .refusals .now)) (at .node-of .ensures)
 
 pub pasa-next-hops-spec : {M : Type 1} → statement M
 pasa-next-hops-spec =
