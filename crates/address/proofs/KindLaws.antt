@@ -3,16 +3,15 @@ use mathlib.Core.Path.{_≡_, refl, sym, ap, subst, _∙_}
 use mathlib.Core.Bool.{Bool, true, false, _&&_, and-eq-true-iff}
 use mathlib.Core.Logic.{_⊎_, inl, inr}
 use mathlib.Core.List.{List, [], _∷_, _++_}
-use Prim.Native.Nat.{ℕ, suc, _+_, _<_}
+use Prim.Native.Nat.{ℕ, zero, suc, _+_, _/_, _<_}
 use native.Mathlib.Omega.{arith}
 use borrow.Author.Tests.{lt-ltb, ltb-true}
 use lib.Dec.{ltb, eqb}
 use lib.ListN.{length, length-append}
-use Rattle.address.specs.Bits.{Bit, O, I, bits, bitsIn, lastBit, digit, number, numberFrom, root}
+use Rattle.address.specs.Bits.{Bit, O, I, bits, bitsIn, lastBit, digit, root}
 use Rattle.address.specs.Address.{bitLength, endsInOne, isHost}
-use Rattle.address.specs.Numbers.{IsAddress}
 use Rattle.address.specs.Kinds.{EndsIn, IsRoot, IsRouter, IsHost, Kinds}
-use Rattle.address.proofs.Numbers.{bits-string, number-bits}
+use Rattle.address.proofs.Numbers.{bitsIn-pos}
 use Rattle.address.proofs.Answers.{endsInOne-snoc}
 
 endsInOne-true : (bs : List Bit) → endsInOne bs ≡ true → (front : List Bit) × (bs ≡ front ++ (I ∷ []))
@@ -36,6 +35,11 @@ ends-zero : (a : ℕ) → EndsIn O a → endsInOne (bits a) ≡ false
 unfolding digit
 ends-zero a (front, e) = ap endsInOne e ∙ endsInOne-snoc front O
 
+pub ends-pos : (b : Bit) (a : ℕ) → EndsIn b a → 0 < a
+unfolding bits bitsIn
+ends-pos b zero (front, e) = absurd (omega (arith, ap length e, length-append front (b ∷ [])))
+ends-pos b (suc a) ends = omega arith
+
 pub isHost-true : (a : ℕ) → isHost a ≡ true → IsHost a
 unfolding isHost
 isHost-true a e =
@@ -49,8 +53,18 @@ isHost-host a (ends, long) = and-eq-true-iff (endsInOne (bits a)) (ltb 1 (bitLen
 pub isHost-no-host : (a : ℕ) → isHost a ≡ false → IsHost a → ⊥
 isHost-no-host a e h = let z : true ≡ false = sym (isHost-host a h) ∙ e in let y : _≡_ {A = ℕ} 0 1 = cc in omega arith
 
-both-ways : (a : ℕ) → EndsIn O a → EndsIn I a → ⊥
+pub both-ways : (a : ℕ) → EndsIn O a → EndsIn I a → ⊥
 both-ways a z i = let e : true ≡ false = sym (ends-one a i) ∙ ends-zero a z in let y : _≡_ {A = ℕ} 0 1 = cc in omega arith
+
+-- a number with no digits, and one with no digits before its last
+
+bitsIn-none : (k n : ℕ) → bitsIn (suc k) n ≡ [] → n ≡ 0
+bitsIn-none k zero e = refl
+bitsIn-none k (suc n) e =
+    absurd (omega (arith, ap length e, ap length (bitsIn-pos k (suc n) (omega arith)), length-append (bitsIn k (suc n / 2)) (lastBit (suc n) ∷ [])))
+
+half-none : (n : ℕ) → 0 < n → n / 2 ≡ 0 → n ≡ root
+half-none n h e = omega arith
 
 ends-root : EndsIn I root
 unfolding bits bitsIn lastBit
@@ -60,17 +74,17 @@ short-root : 1 < bitLength root → ⊥
 unfolding bitLength bits bitsIn lastBit
 short-root h = omega arith
 
-some-kind : (a : ℕ) → IsAddress a → IsRoot a ⊎ IsRouter a ⊎ IsHost a
-unfolding bitLength number numberFrom digit
-some-kind a h = go (bits-string h .first .0) (bits-string h .first .1)
+some-kind : (a : ℕ) → 0 < a → IsRoot a ⊎ IsRouter a ⊎ IsHost a
+unfolding bitLength bits
+some-kind a h = go (bitsIn 63 (a / 2)) refl (lastBit a) (bitsIn-pos 63 a h)
   where
-    last : (b : Bit) (rest : List Bit) → bits a ≡ I ∷ b ∷ rest → (t : Bool) → endsInOne (I ∷ b ∷ rest) ≡ t → IsRoot a ⊎ IsRouter a ⊎ IsHost a
-    last b rest e true q = let ends = endsInOne-true (I ∷ b ∷ rest) q in inr (inr ((ends .0, e ∙ ends .1), omega (arith, ap length e)))
-    last b rest e false q = let ends = endsInOne-false I (b ∷ rest) q in inr (inl (ends .0, e ∙ ends .1))
-
-    go : (rest : List Bit) → bits a ≡ I ∷ rest → IsRoot a ⊎ IsRouter a ⊎ IsHost a
-    go [] e = inl (sym (number-bits (h .fits)) ∙ ap number e)
-    go (b ∷ rest) e = last b rest e (endsInOne (I ∷ b ∷ rest)) refl
+    -- behind at least one bit
+    last : (c : Bit) (rest : List Bit) (b : Bit) → bits a ≡ (c ∷ rest) ++ (b ∷ []) → IsRoot a ⊎ IsRouter a ⊎ IsHost a
+    last c rest O e = inr (inl (c ∷ rest, e))
+    last c rest I e = inr (inr ((c ∷ rest, e), omega (arith, ap length e, length-append rest (I ∷ []))))
+    go : (front : List Bit) → bitsIn 63 (a / 2) ≡ front → (b : Bit) → bits a ≡ bitsIn 63 (a / 2) ++ (b ∷ []) → IsRoot a ⊎ IsRouter a ⊎ IsHost a
+    go [] f b e = inl (half-none a h (bitsIn-none 62 (a / 2) f))
+    go (c ∷ rest) f b e = last c rest b (e ∙ ap (λ (l : List Bit). l ++ (b ∷ [])) f)
 
 pub kinds : Kinds
 kinds = record {

@@ -6,7 +6,6 @@ use mathlib.Core.Logic.{_⊎_, _↔_}
 use mathlib.Core.List.{List, [], _∷_, _++_}
 use Rattle.address.specs.Bits.{Bit, O, I, bits, root}
 use Rattle.address.specs.Address.{bitLength, isHost}
-use Rattle.address.specs.Numbers.{IsAddress}
 
 -- the bit string of a number ends in this bit
 abbrev pub EndsIn : Bit → ℕ → Type 0
@@ -27,8 +26,8 @@ IsHost a = EndsIn I a × (1 < bitLength a)
 pub record Kinds : Type 0 where
   -- the test is right about every number, zero included
   pub tested : (a : ℕ) → (isHost a ≡ true) ↔ IsHost a
-  -- every address is the root, a router or a host
-  pub some : (a : ℕ) → IsAddress a → IsRoot a ⊎ IsRouter a ⊎ IsHost a
+  -- every number but zero is the root, a router or a host
+  pub some : (a : ℕ) → 0 < a → IsRoot a ⊎ IsRouter a ⊎ IsHost a
   -- "The root ends in 1 and is no host.", and no router is the root or a host
   pub rootEnds : EndsIn I root
   pub rootNoHost : IsHost root → ⊥

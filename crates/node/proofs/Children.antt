@@ -73,7 +73,7 @@ module _ (n : Node) (good : isGood n ≡ true) where
       go Router (r, h) = unfold count in leb-true (n .routers) (room n) r
       go Host (r, h) = unfold count in leb-true (n .hosts) (room n) h
 
-isGood-counts : (n : Node) → (addressIn n ≡ 0 → ⊥) → isHost (addressIn n) ≡ false → ((kind : Kind) → count kind n ≤ room n) → isGood n ≡ true
+pub isGood-counts : (n : Node) → (addressIn n ≡ 0 → ⊥) → isHost (addressIn n) ≡ false → ((kind : Kind) → count kind n ≤ room n) → isGood n ≡ true
 unfolding count
 isGood-counts n some h le = isGood-hosts n some h (le Router) ∙ le-leb (n .hosts) (room n) (le Host)
 

@@ -1,4 +1,6 @@
 -- The laws of the node crate.
 pub mod ChildLaws
 pub mod Children
+pub mod RefusalLaws
+pub mod GivenChildren
 pub mod Promises

@@ -1,14 +1,36 @@
--- What the functions of this crate promise, by their contracts as the code states them, is `fresh` and `childOf`: the definitions of which the
--- laws are proved.
+-- What the functions of this crate promise, by their contracts as the code states them, is `fresh`, `count`, `isGood` and `childOf`: the
+-- definitions of which the laws are proved. None of them asks anything of its caller.
 use mathlib.Core.Path.{_≡_}
+use mathlib.Core.Bool.{Bool}
+use Prim.Native.Nat.{ℕ}
 use Rattle.address.specs.declared.Address.{Address}
 use Rattle.address.specs.declared.Kind.{Kind}
-use Rattle.node.specs.Node.{Node, Given, fresh, childOf}
+use Rattle.node.specs.Node.{Node, Given, fresh, count, isGood, childOf}
 use Rattle.node.proofs.Node.fresh.Reads as fresh-reads
+use Rattle.node.proofs.Node.count.Reads as count-reads
+use Rattle.node.proofs.Node.is_good.Reads as is-good-reads
 use Rattle.node.proofs.Node.child.Reads as child-reads
 
 pub fresh-promise : (address : Address) (r : Node) → fresh-reads.Learnt tt (address, tt) r (address, tt) → r ≡ fresh (address .number)
 fresh-promise address r h = h
 
+pub fresh-asks-nothing : (address : Address) → fresh-reads.Asked tt (address, tt)
+fresh-asks-nothing address = tt
+
+pub count-promise : (n : Node) (kind : Kind) (r : ℕ) → count-reads.Learnt tt (n, (kind, tt)) r (n, (kind, tt)) → r ≡ count kind n
+count-promise n kind r h = h
+
+pub count-asks-nothing : (n : Node) (kind : Kind) → count-reads.Asked tt (n, (kind, tt))
+count-asks-nothing n kind = tt
+
+pub is-good-promise : (n : Node) (r : Bool) → is-good-reads.Learnt tt (n, tt) r (n, tt) → r ≡ isGood n
+is-good-promise n r h = h
+
+pub is-good-asks-nothing : (n : Node) → is-good-reads.Asked tt (n, tt)
+is-good-asks-nothing n = tt
+
 pub child-promise : (n : Node) (kind : Kind) (r : Given) → child-reads.Learnt tt (n, (kind, tt)) r (n, (kind, tt)) → r ≡ childOf n kind
 child-promise n kind r h = h
+
+pub child-asks-nothing : (n : Node) (kind : Kind) → child-reads.Asked tt (n, (kind, tt))
+child-asks-nothing n kind = tt

@@ -1,2 +1,4 @@
--- What the node crate promises, in definitions alone.
+-- What the node crate promises, in definitions and statements alone.
 pub mod Node
+pub mod Refusals
+pub mod Children
