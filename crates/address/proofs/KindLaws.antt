@@ -82,6 +82,7 @@ some-kind a h = go (bitsIn 63 (a / 2)) refl (lastBit a) (bitsIn-pos 63 a h)
     last : (c : Bit) (rest : List Bit) (b : Bit) → bits a ≡ (c ∷ rest) ++ (b ∷ []) → IsRoot a ⊎ IsRouter a ⊎ IsHost a
     last c rest O e = inr (inl (c ∷ rest, e))
     last c rest I e = inr (inr ((c ∷ rest, e), omega (arith, ap length e, length-append rest (I ∷ []))))
+
     go : (front : List Bit) → bitsIn 63 (a / 2) ≡ front → (b : Bit) → bits a ≡ bitsIn 63 (a / 2) ++ (b ∷ []) → IsRoot a ⊎ IsRouter a ⊎ IsHost a
     go [] f b e = inl (half-none a h (bitsIn-none 62 (a / 2) f))
     go (c ∷ rest) f b e = last c rest b (e ∙ ap (λ (l : List Bit). l ++ (b ∷ [])) f)

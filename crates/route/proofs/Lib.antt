@@ -4,4 +4,6 @@ pub mod PathLaws
 pub mod Length
 mod Underway
 mod Listing
+pub mod Words
+pub mod RefusalLaws
 pub mod Promises

@@ -20,12 +20,12 @@ use Rattle.route.specs.TurningPoint.{IsTurningPoint, TurningPoints}
 
 -- the same steps
 
-sameKind-refl : (k : Kind) → sameKind k k ≡ true
+pub sameKind-refl : (k : Kind) → sameKind k k ≡ true
 unfolding sameKind
 sameKind-refl router = refl
 sameKind-refl host = refl
 
-sameKind-true : (k l : Kind) → sameKind k l ≡ true → k ≡ l
+pub sameKind-true : (k l : Kind) → sameKind k l ≡ true → k ≡ l
 unfolding sameKind
 sameKind-true router router e = refl
 sameKind-true router host e = cc

@@ -1,3 +1,5 @@
 -- The laws of the search crate.
 pub mod SearchLaws
 pub mod Prefixes
+pub mod Words
+pub mod Promises

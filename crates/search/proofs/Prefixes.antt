@@ -23,20 +23,20 @@ use Rattle.address.proofs.Ancestors.{behind, routers-tail, routers-steps, bits-
 
 -- one string begins another where something behind it makes the other
 
-isPrefix-append : (cs rest : List Bit) → isPrefix cs (cs ++ rest) ≡ true
+pub isPrefix-append : (cs rest : List Bit) → isPrefix cs (cs ++ rest) ≡ true
 unfolding isPrefix sameBit
 isPrefix-append [] rest = refl
 isPrefix-append (O ∷ cs) rest = isPrefix-append cs rest
 isPrefix-append (I ∷ cs) rest = isPrefix-append cs rest
 
-sameBit-true : (c d : Bit) → sameBit c d ≡ true → c ≡ d
+pub sameBit-true : (c d : Bit) → sameBit c d ≡ true → c ≡ d
 unfolding sameBit
 sameBit-true O O e = refl
 sameBit-true O I e = cc
 sameBit-true I O e = cc
 sameBit-true I I e = refl
 
-isPrefix-true : (cs ds : List Bit) → isPrefix cs ds ≡ true → (rest : List Bit) × (ds ≡ cs ++ rest)
+pub isPrefix-true : (cs ds : List Bit) → isPrefix cs ds ≡ true → (rest : List Bit) × (ds ≡ cs ++ rest)
 unfolding isPrefix
 isPrefix-true [] ds e = (ds, refl)
 isPrefix-true (c ∷ cs) [] e = let z : _≡_ {A = ℕ} 0 1 = cc in absurd (omega arith)

@@ -1,2 +1,3 @@
--- What the search crate promises, in definitions alone.
+-- What the search crate promises, in definitions and statements alone.
 pub mod Search
+pub mod Exactly

@@ -1,4 +1,4 @@
--- `prefix` meets its contract: a shift leaves the first bits, all of them where it has no more.
+-- `first_bits` meets its contract: a shift leaves the first bits, all of them where it has no more.
 use mathlib.Core.Path.{sym, _∙_}
 use borrow.Author.Needs.{needs}
 use native.Mathlib.Omega.{arith}

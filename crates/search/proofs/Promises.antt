@@ -1,0 +1,23 @@
+-- What the functions of this crate promise, by their contracts as the code states them, is `childEnd` and `firstBits`. Neither asks anything of
+-- its caller.
+use mathlib.Core.Path.{_≡_}
+use Prim.Native.Nat.{ℕ}
+use Rattle.address.specs.Bits.{bits}
+use Rattle.address.specs.declared.Address.{Address}
+use Rattle.search.specs.Search.{childEnd, firstBits}
+use Rattle.search.proofs.child_end.Reads as child-end-reads
+use Rattle.search.proofs.first_bits.Reads as first-bits-reads
+
+pub child-end-promise : (address : Address) (from r : ℕ) → child-end-reads.Learnt tt (address, (from, tt)) r (address, (from, tt))
+    → r ≡ childEnd from (bits (address .number))
+child-end-promise address from r h = h
+
+pub child-end-asks-nothing : (address : Address) (from : ℕ) → child-end-reads.Asked tt (address, (from, tt))
+child-end-asks-nothing address from = tt
+
+pub first-bits-promise : (address : Address) (count : ℕ) (r : Address) → first-bits-reads.Learnt tt (address, (count, tt)) r (address, (count, tt))
+    → r .number ≡ firstBits count (address .number)
+first-bits-promise address count r h = h
+
+pub first-bits-asks-nothing : (address : Address) (count : ℕ) → first-bits-reads.Asked tt (address, (count, tt))
+first-bits-asks-nothing address count = tt
