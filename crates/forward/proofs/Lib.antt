@@ -2,4 +2,5 @@
 pub mod Rules
 pub mod Hops
 pub mod Looked
+pub mod RefusalLaws
 pub mod Promises

@@ -29,3 +29,6 @@ hopOf-answer (Refused n) = refl
 
 pub one-hop : (r s : Hop) → hopAnswer r ≡ hopAnswer s → r ≡ s
 one-hop r s e = sym (hopOf-answer r) ∙ ap (λ (x : HopAnswer). hopOf (x .action) (x .refusal) (x .named)) e ∙ hopOf-answer s
+
+pub next-hop-asks-nothing : (n : Node) (destination : Address) → next-hop-reads.Asked tt (n, (destination, tt))
+next-hop-asks-nothing n destination = tt

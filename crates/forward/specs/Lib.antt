@@ -1,2 +1,4 @@
--- What the forward crate promises, in definitions alone.
+-- What the forward crate promises, in definitions and statements alone.
 pub mod Forward
+pub mod Refusals
+pub mod BySteps
