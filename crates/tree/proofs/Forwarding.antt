@@ -33,7 +33,7 @@ use Rattle.route.specs.Path.{path}
 use Rattle.route.proofs.Turning.{ancestorOrSelf-refl, ancestorOrSelf-cons, ancestorOrSelf-cases, ancestorOrSelf-length, ancestorOrSelf-tail}
 use Rattle.route.proofs.PathLaws.{steps-ancestorOrSelf, depth-steps, off-root}
 use Rattle.tree.specs.Tree.{Tree, standing, recordOf, InTree}
-use Rattle.tree.specs.Way.{delivery, refusal, passed, fateOf, fateBy, fate, End, deliveredAt, stoppedAt, TheWay, IsPacket}
+use Rattle.tree.specs.Way.{deliveredTo, stoppedWith, passedTo, fate, End, deliveredAt, stoppedAt, TheWay, IsPacket}
 use Rattle.tree.specs.Demand3.{Arrives, IsAncestor, StopsAt}
 use Rattle.tree.proofs.Sound.{Sound}
 use Rattle.tree.proofs.Trees.{recordOf-inTree, addressIn-recordOf, dec-inTree}
@@ -94,28 +94,28 @@ module _ (t : Tree) (sound : Sound t) (p : List ℕ) (d : ℕ) (packet : IsPacke
     fate-hop : {r : HopAnswer} → nextHop n d ≡ r → fate (packetHop n p) ≡ fate r
     fate-hop e = ap fate (packetHop-found n p good (packet .reads) ∙ e)
 
-    fate-deliver : a ≡ d → fate (packetHop n p) ≡ delivery
-    unfolding fate fateBy fateOf
-    fate-deliver e = fate-hop (nextHop-deliver n d good address-own address-packet (sym (own ∙ e)))
+    fate-deliver : a ≡ d → fate (packetHop n p) ≡ deliveredTo a
+    unfolding fate
+    fate-deliver e = fate-hop (nextHop-deliver n d good address-own address-packet (sym (own ∙ e))) ∙ ap deliveredTo own
 
-    fate-up : (AncestorOrSelf (steps a) (steps d) → ⊥) → fate (packetHop n p) ≡ passed (parent a)
-    unfolding fate fateBy fateOf
+    fate-up : (AncestorOrSelf (steps a) (steps d) → ⊥) → fate (packetHop n p) ≡ passedTo (parent a)
+    unfolding fate
     fate-up off =
         fate-hop (nextHop-up n d good address-own address-packet (subst (λ (k : ℕ). AncestorOrSelf (steps k) (steps d) → ⊥) (sym own) off))
-        ∙ ap (λ (k : ℕ). passed (parent k)) own
+        ∙ ap (λ (k : ℕ). passedTo (parent k)) own
 
     module _ (more : List Step) (kind : Kind) (j : ℕ) (e : steps d ≡ more ++ (child kind j ∷ steps a)) where
       own-step : steps d ≡ more ++ (child kind j ∷ steps (addressIn n))
       own-step = e ∙ ap (λ (k : ℕ). more ++ (child kind j ∷ steps k)) (sym own)
 
-      fate-down : j < count kind n → fate (packetHop n p) ≡ passed (addressOf (child kind j ∷ steps a))
-      unfolding fate fateBy fateOf
+      fate-down : j < count kind n → fate (packetHop n p) ≡ passedTo (addressOf (child kind j ∷ steps a))
+      unfolding fate
       fate-down h =
           fate-hop (nextHop-down n d good address-own address-packet more kind j own-step h)
-          ∙ ap (λ (k : ℕ). passed (addressOf (child kind j ∷ steps k))) own
+          ∙ ap (λ (k : ℕ). passedTo (addressOf (child kind j ∷ steps k))) own
 
-      fate-stop : count kind n ≤ j → fate (packetHop n p) ≡ refusal 7
-      unfolding fate fateBy fateOf
+      fate-stop : count kind n ≤ j → fate (packetHop n p) ≡ stoppedWith 7
+      unfolding fate
       fate-stop h = fate-hop (nextHop-stop n d good address-own address-packet more kind j own-step h)
 
   -- ---- by the path to a node on the way to d, to which every other such node leads
@@ -142,7 +142,7 @@ module _ (t : Tree) (sound : Sound t) (p : List ℕ) (d : ℕ) (packet : IsPacke
     theWay-path : {a : ℕ} {e : End} → TheWay packetHop t p x (x ∷ []) e → InTree a t → TheWay packetHop t p a (path a x) e
     theWay-path {a} end i = theWay-route end i (route (sound .address a i) (sound .address x there))
 
-    theWay-here : x ≡ d → TheWay packetHop t p x (x ∷ []) (deliveredAt x)
+    theWay-here : x ≡ d → TheWay packetHop t p x (x ∷ []) (deliveredAt x x)
     theWay-here same =
         let (n, stands, own) = recordOf-inTree t there in
         theWay-delivered packetHop t p stands (fate-deliver there stands same)

@@ -20,9 +20,9 @@ use Rattle.node.specs.declared.Node.{Node}
 use Rattle.node.specs.declared.Given.{Given}
 use Rattle.forward.specs.Forward.{nextHop, rules, toward}
 use Rattle.packet.specs.Packet.{packetHop}
-use Rattle.tree.specs.Tree.{Request, request, ChildRule, Tree, bareRoot, Record, standing, absent, recordOf, replaced, withChild}
+use Rattle.tree.specs.Tree.{Request, request, ChildRule, Tree, givenIn, givenBy, bareRoot, Record, standing, absent, recordOf, replaced, withChild}
 use Rattle.tree.specs.Tree.{answered, askedOf, ask, grow, grown, addresses, InTree}
-use Rattle.tree.specs.Way.{refusal, fate, fateBy, fateOf, deliveredAt, stoppedAt, lostAt, Way, stopped, lost, IsPacket}
+use Rattle.tree.specs.Way.{stoppedWith, fate, deliveredAt, stoppedAt, lostAt, Way, stopped, lost, IsPacket}
 use Rattle.tree.specs.Demand3.{Demand3}
 use Rattle.tree.specs.WrongChildren.{sameChild, oneCount, limitOnParent, refusesAll, rootAsHost}
 use Rattle.tree.proofs.Trees.{inTree-recordOf}
@@ -35,7 +35,7 @@ unfolding bits bitsIn lastBit bitLength number numberFrom digit stepBits lastOf 
 forBits = tt
 
 forTrees : Unit {0}
-unfolding forBits grown grow ask askedOf answered withChild replaced recordOf bareRoot addresses fresh count raised isGood childBits refuseChild
+unfolding forBits givenIn givenBy grown grow ask askedOf answered withChild replaced recordOf bareRoot addresses fresh count raised isGood childBits refuseChild
 forTrees = tt
 
 forPackets : Unit {0}
@@ -43,7 +43,7 @@ unfolding forBits header size octets reading startFault inOrder sizeTold address
 forPackets = tt
 
 forHops : Unit {0}
-unfolding forPackets packetHop nextHop rules toward lookedAt isPrefix sameBit kindLooked indexLooked isGood count fate fateBy fateOf
+unfolding forPackets packetHop nextHop rules toward lookedAt isPrefix sameBit kindLooked indexLooked isGood count fate
 forHops = tt
 
 -- ---- every child the same address: two routers asked of the root are both 10
@@ -120,7 +120,7 @@ recordOf-hosts64 : recordOf root (grown limitOnParent hosts64) ≡ standing (roo
 unfolding grown bareRoot fresh
 recordOf-hosts64 = recordOf-hosts 64 0 [] (omega arith)
 
-fate-hosts64 : fate (packetHop (rootWith 64) (header root)) ≡ refusal 1
+fate-hosts64 : fate (packetHop (rootWith 64) (header root)) ≡ stoppedWith 1
 unfolding forHops
 fate-hosts64 = refl
 
@@ -136,7 +136,7 @@ pub limit-on-parent-refuted : ((rs : List Request) → Demand3 limitOnParent pac
 limit-on-parent-refuted h =
     let there = inTree-recordOf root (rootWith 64) (grown limitOnParent hosts64) recordOf-hosts64 in
     let arrives = h hosts64 .arrival root root (header root) there there packet-root in
-    let e : stoppedAt 1 root ≡ deliveredAt root =
+    let e : stoppedAt 1 root ≡ deliveredAt root root =
     arrives .theWay .only (root ∷ []) (stoppedAt 1 root) (stopped recordOf-hosts64 fate-hosts64) .1 in
     let z : _≡_ {A = ℕ} 0 1 = cc in
     omega arith

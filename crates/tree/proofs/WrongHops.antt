@@ -22,9 +22,9 @@ use Rattle.forward.specs.Forward.{nextHop, rules, toward}
 use Rattle.packet.specs.Packet.{packetHop}
 use Rattle.tree.specs.Tree.{Request, request, Tree, bareRoot, recordOf, replaced, withChild, answered, askedOf, ask, grow, grown, addresses, InTree, standing, Linked, Walk, here, along}
 use Rattle.route.specs.Path.{path, pathOf, turn, isAncestorOrSelf, sameSteps, below}
-use Rattle.tree.specs.Way.{Fate, fateOf, fateBy, fate, deliveredAt, stoppedAt, lostAt, delivered, stopped, lost, onward, delivery, refusal, passed}
+use Rattle.tree.specs.Way.{Fate, deliveredTo, stoppedWith, passedTo, fate, deliveredAt, stoppedAt, lostAt, delivered, stopped, lost, onward}
 use Rattle.tree.specs.Demand3.{Demand3, Arrives}
-use Rattle.tree.specs.WrongHops.{AddressRule, hopBy, rulesBy, rightParts, refusesEverything, parentToAll, leaps, hostKeeps, hostDelivers, rootAsHost, lowBits, lookedShort, beforeLastBit, oneCount}
+use Rattle.tree.specs.WrongHops.{AddressRule, hopBy, rulesBy, rightParts, refusesEverything, parentToAll, leaps, namesNobody, hostKeeps, hostDelivers, rootAsHost, lowBits, lookedShort, beforeLastBit, oneCount}
 use Rattle.tree.proofs.Ways.{way-passed}
 use Rattle.tree.proofs.Forwarding.{packets}
 
@@ -59,7 +59,7 @@ unfolding fresh count raised isGood childBits childOf bareRoot recordOf replaced
 trees-opened = tt
 
 opened : Unit {0}
-unfolding addresses-opened trees-opened isPrefix sameBit lookedAt kindLooked indexLooked toward rules rulesBy fateOf fateBy fate
+unfolding addresses-opened trees-opened isPrefix sameBit lookedAt kindLooked indexLooked toward rules rulesBy fate
 opened = tt
 
 address : (k : ℕ) → k < 8 → IsAddress (suc k)
@@ -80,21 +80,26 @@ module _ (rule : AddressRule) (claim : (rs : List Request) → Demand3 childOf (
       answers : {f : Fate} → fate (rule n d) ≡ f → fate (hopBy rule n (header d ++ [])) ≡ f
       answers f = ap fate (hopBy-header rule n good b) ∙ f
 
-      never-stopped : {k : ℕ} → fate (rule n d) ≡ refusal k → ⊥
+      never-stopped : {k : ℕ} → fate (rule n d) ≡ stoppedWith k → ⊥
       never-stopped {k} f =
           let same = arrives .theWay .only (a ∷ []) (stoppedAt k a) (stopped r (answers f)) in
           let z : _≡_ {A = ℕ} 0 1 = cc in
           omega arith
 
-      never-lost : {x : ℕ} → fate (rule n d) ≡ passed x → (InTree x (grown childOf rs) → ⊥) → ⊥
+      never-lost : {x : ℕ} → fate (rule n d) ≡ passedTo x → (InTree x (grown childOf rs) → ⊥) → ⊥
       never-lost f out =
           let same = arrives .theWay .only (a ∷ []) (lostAt a) (lost r (answers f) out) in
           let z : _≡_ {A = ℕ} 0 1 = cc in
           omega arith
 
-      never-elsewhere : fate (rule n d) ≡ delivery → (a ≡ d → ⊥) → ⊥
-      never-elsewhere f other =
-          let same = arrives .theWay .only (a ∷ []) (deliveredAt a) (delivered r (answers f)) in
+      never-elsewhere : {x : ℕ} → fate (rule n d) ≡ deliveredTo x → (a ≡ d → ⊥) → ⊥
+      never-elsewhere {x} f other =
+          let same = arrives .theWay .only (a ∷ []) (deliveredAt a x) (delivered r (answers f)) in
+          other (cc)
+
+      never-misnamed : {x : ℕ} → fate (rule n d) ≡ deliveredTo x → (x ≡ d → ⊥) → ⊥
+      never-misnamed {x} f other =
+          let same = arrives .theWay .only (a ∷ []) (deliveredAt a x) (delivered r (answers f)) in
           other (cc)
 
 -- ---- impostors
@@ -109,6 +114,11 @@ pub parentToAll-refuted : ((rs : List Request) → Demand3 childOf parentToAll r
 unfolding parentToAll opened
 parentToAll-refuted claim =
     never-lost _ claim [] (address 0 (lit< tt)) (first refl) (first refl) refl refl refl (not-cons (λ e. omega arith) List·Memᴰ·not-nil)
+
+-- 1 to itself: it is delivered, but in nobody's name
+pub namesNobody-refuted : ((rs : List Request) → Demand3 childOf namesNobody rs) → ⊥
+unfolding namesNobody opened
+namesNobody-refuted claim = never-misnamed _ claim [] (address 0 (lit< tt)) (first refl) (first refl) refl refl refl (λ e. omega arith)
 
 -- a walk's first two nodes are linked
 walk-link : {t : Tree} {a d x y : ℕ} {w : List ℕ} → Walk t a d (x ∷ y ∷ w) → Linked t x y
@@ -125,7 +135,7 @@ leaps-refuted claim =
     let goes = arrives _ claim rs b (first refl) j in
     let end = delivered refl (ap fate (hopBy-header _ (fresh 4) refl b)) in
     let way = onward refl (ap fate (hopBy-header _ (raised router (fresh 1)) refl b)) j end in
-    let same = goes .theWay .only (1 ∷ 4 ∷ []) (deliveredAt 4) way .0 in
+    let same = goes .theWay .only (1 ∷ 4 ∷ []) (deliveredAt 4 4) way .0 in
     ⊎-elim (λ h. h .notRoot refl) (λ h. omega (arith, h .isParent)) (walk-link (rw (← same) at (goes .overLinks)))
 
 -- ---- slips

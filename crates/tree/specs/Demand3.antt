@@ -9,14 +9,14 @@ use Rattle.address.specs.Numbers.{IsAddress}
 use Rattle.octets.specs.Octets.{AreOctets}
 use Rattle.header.specs.Header.{header}
 use Rattle.route.specs.Path.{path, hops}
-use Rattle.tree.specs.Tree.{ChildRule, Request, Tree, grown, addresses, InTree, AllDiffer, Walk}
+use Rattle.tree.specs.Tree.{ChildRule, Request, Tree, grown, givenIn, addresses, InTree, AllDiffer, Walk}
 use Rattle.tree.specs.Way.{HopRule, IsPacket, TheWay, deliveredAt, stoppedAt}
 
 -- "a packet for the second's address, started at the first and passed on by our rule, is delivered at the second. The nodes it meets are, in
 -- order, document 01's path from the first to the second. It keeps to parent and child links and meets no node twice. Every other walk over
--- those links from the first to the second has at least as many hops."
+-- those links from the first to the second has at least as many hops." The delivery names the second: "on delivery C itself".
 pub record Arrives (hop : HopRule) (t : Tree) (p : List ℕ) (a d : ℕ) : Type 0 where
-  pub theWay : TheWay hop t p a (path a d) (deliveredAt d)
+  pub theWay : TheWay hop t p a (path a d) (deliveredAt d d)
   pub overLinks : Walk t a d (path a d)
   pub once : AllDiffer (path a d)
   pub shortest : (w : List ℕ) → Walk t a d w → hops (path a d) ≤ hops w
@@ -41,10 +41,10 @@ pub record StopsAt (hop : HopRule) (t : Tree) (p : List ℕ) (a d x : ℕ) : Typ
 pub record Demand3 (child : ChildRule) (hop : HopRule) (rs : List Request) : Type 0 where
   -- "every address's header, as written below, with any payload behind it, is one"
   pub packets : (d : ℕ) (payload : List ℕ) → IsAddress d → AreOctets payload → IsPacket (header d ++ payload) d
-  -- "the root's among them"
-  pub rooted : InTree root (grown child rs)
-  -- "all addresses given differ"
-  pub differ : AllDiffer (addresses (grown child rs))
+  -- "The tree after a list is the root and every address given in it without a refusal."
+  pub nodes : addresses (grown child rs) ≡ root ∷ givenIn child rs
+  -- "After it all addresses given differ, the root's among them."
+  pub differ : AllDiffer (root ∷ givenIn child rs)
   -- "Take any two nodes of that tree, or the same one twice"
   pub arrival : (a d : ℕ) (p : List ℕ) → InTree a (grown child rs) → InTree d (grown child rs) → IsPacket p d → Arrives hop (grown child rs) p a d
   -- "A packet started at any node, for an address not in that tree"

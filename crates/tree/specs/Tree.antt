@@ -1,5 +1,5 @@
 -- The tree of demand 3 (document 01, "The tree of demand 3"), for any rule for a child, so that a wrong rule can be refuted.
-use Prim.Native.Nat.{ℕ}
+use Prim.Native.Nat.{ℕ, zero, suc}
 use mathlib.Core.Path.{_≡_}
 use mathlib.Core.Logic.{_⊎_}
 use mathlib.Core.List.{List, [], _∷_, _++_, map, List·Memᴰ}
@@ -87,6 +87,17 @@ grow rule t (r ∷ rs) = record {
 -- request"
 unfoldable pub grown : ChildRule → List Request → Tree
 grown rule rs = grow rule bareRoot rs .tree
+
+-- the addresses that some replies give: "a refused one gives no address"
+unfoldable pub givenBy : List Reply → List ℕ
+givenBy [] = []
+givenBy (replied zero a ∷ rs) = a ∷ givenBy rs
+givenBy (replied (suc n) a ∷ rs) = givenBy rs
+givenBy (nobody ∷ rs) = givenBy rs
+
+-- the addresses given in a list of requests from a bare root, in the order given
+unfoldable pub givenIn : ChildRule → List Request → List ℕ
+givenIn rule rs = givenBy (grow rule bareRoot rs .replies)
 
 -- ---- nodes, links and walks
 

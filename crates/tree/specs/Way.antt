@@ -14,37 +14,38 @@ use Rattle.tree.specs.Tree.{Tree, standing, recordOf, InTree}
 abbrev pub HopRule : Type 0
 HopRule = Node → List ℕ → HopAnswer
 
--- what an answer does to a packet
+-- what an answer does to a packet: it is delivered, the answer naming a node; it stops, with a refusal's number; or it is passed to the node
+-- named
 pub data Fate : Type 0 where
-  delivery : Fate
-  refusal : ℕ → Fate
-  passed : ℕ → Fate
-
-unfoldable pub fateOf : Action → ℕ → Fate
-fateOf deliver x = delivery
-fateOf toParent x = passed x
-fateOf toChild x = passed x
-fateOf stop x = refusal 0
-
-unfoldable pub fateBy : ℕ → Action → ℕ → Fate
-fateBy zero action x = fateOf action x
-fateBy (suc n) action x = refusal (suc n)
+  deliveredTo : ℕ → Fate
+  stoppedWith : ℕ → Fate
+  passedTo : ℕ → Fate
 
 unfoldable pub fate : HopAnswer → Fate
-fate r = fateBy (r .refusal) (r .action) (r .named)
+fate r =
+    elim (r .refusal) [
+      | zero ↦ elim (r .action) [
+        | deliver ↦ deliveredTo (r .named)
+        | toParent ↦ passedTo (r .named)
+        | toChild ↦ passedTo (r .named)
+        | stop ↦ stoppedWith 0
+      ]
+      | suc n ↦ stoppedWith (suc n)
+    ]
 
--- how and where a way ends
+-- how and where a way ends: delivered at a node, the answer naming this one or another; stopped with a number at a node; or behind a node that
+-- passed the packet to one that isn't in the tree
 pub data End : Type 0 where
-  deliveredAt : ℕ → End
+  deliveredAt : ℕ → ℕ → End
   stoppedAt : ℕ → ℕ → End
   lostAt : ℕ → End
 
 -- what becomes of the octets p at a node, with its record as it stands
 pub data Way (hop : HopRule) (t : Tree) (p : List ℕ) : ℕ → List ℕ → End → Type 0 where
-  delivered : {a : ℕ} {n : Node} → recordOf a t ≡ standing n → fate (hop n p) ≡ delivery → Way hop t p a (a ∷ []) (deliveredAt a)
-  stopped : {a k : ℕ} {n : Node} → recordOf a t ≡ standing n → fate (hop n p) ≡ refusal k → Way hop t p a (a ∷ []) (stoppedAt k a)
-  lost : {a x : ℕ} {n : Node} → recordOf a t ≡ standing n → fate (hop n p) ≡ passed x → (InTree x t → ⊥) → Way hop t p a (a ∷ []) (lostAt a)
-  onward : {a x : ℕ} {n : Node} {w : List ℕ} {e : End} → recordOf a t ≡ standing n → fate (hop n p) ≡ passed x → InTree x t → Way hop t p x w e
+  delivered : {a x : ℕ} {n : Node} → recordOf a t ≡ standing n → fate (hop n p) ≡ deliveredTo x → Way hop t p a (a ∷ []) (deliveredAt a x)
+  stopped : {a k : ℕ} {n : Node} → recordOf a t ≡ standing n → fate (hop n p) ≡ stoppedWith k → Way hop t p a (a ∷ []) (stoppedAt k a)
+  lost : {a x : ℕ} {n : Node} → recordOf a t ≡ standing n → fate (hop n p) ≡ passedTo x → (InTree x t → ⊥) → Way hop t p a (a ∷ []) (lostAt a)
+  onward : {a x : ℕ} {n : Node} {w : List ℕ} {e : End} → recordOf a t ≡ standing n → fate (hop n p) ≡ passedTo x → InTree x t → Way hop t p x w e
       → Way hop t p a (a ∷ w) e
 
 -- the one way of the octets from a node

@@ -42,6 +42,10 @@ parentToAll = hopBy (λ n d. upTo (parent (addressIn n)))
 unfoldable pub leaps : HopRule
 leaps = hopBy (λ n d. if eqb d (addressIn n) then deliverAt (addressIn n) else downTo d)
 
+-- "The answer names the node passed to, on delivery C itself.": one that names nobody on delivery
+unfoldable pub namesNobody : HopRule
+namesNobody = hopBy (λ n d. if eqb d (addressIn n) then deliverAt 0 else rules n d)
+
 -- ---- slips
 
 -- the parts of the rules: which address is a host, which string begins another, the bits looked at, and the count of a kind
