@@ -1,3 +1,4 @@
 -- The laws of the batch crate.
 mod Front
 mod Ends
+pub mod Promises

@@ -85,3 +85,39 @@ pub path-promise : (κs : Lfts 1) (a d : ℕ) (words last : Slice) (r : PasaList
     → path-reads.Learnt κs (a, (d, (words, tt))) r (a, (d, (last, tt)))
     → (r ≡ pasaListed (listing a d (now words) .answer)) × (now last ≡ listing a d (now words) .words)
 path-promise κs a d words last r h = h
+
+-- ---- no export asks anything of its caller
+
+pub fresh-asks-nothing : (a : ℕ) → fresh-reads.Asked tt (a, tt)
+fresh-asks-nothing a = tt
+
+pub child-router-asks-nothing : (n : PasaNode) → child-router-reads.Asked tt (n, tt)
+child-router-asks-nothing n = tt
+
+pub child-host-asks-nothing : (n : PasaNode) → child-host-reads.Asked tt (n, tt)
+child-host-asks-nothing n = tt
+
+pub next-hop-asks-nothing : (n : PasaNode) (d : ℕ) → next-hop-reads.Asked tt (n, (d, tt))
+next-hop-asks-nothing n d = tt
+
+pub packet-next-hop-asks-nothing : (κs : Lfts 1) (n : PasaNode) (packet : Slice) → packet-next-hop-reads.Asked κs (n, (packet, tt))
+packet-next-hop-asks-nothing κs n packet = tt
+
+pub next-hops-asks-nothing : (κs : Lfts 4) (n : PasaNode) (ds nodes actions refusals : Slice)
+    → next-hops-reads.Asked κs (n, (ds, (nodes, (actions, (refusals, tt)))))
+next-hops-asks-nothing κs n ds nodes actions refusals = tt
+
+pub header-write-asks-nothing : (κs : Lfts 1) (a : ℕ) (out : Slice) → header-write-reads.Asked κs (a, (out, tt))
+header-write-asks-nothing κs a out = tt
+
+pub header-read-asks-nothing : (κs : Lfts 1) (packet : Slice) → header-read-reads.Asked κs (packet, tt)
+header-read-asks-nothing κs packet = tt
+
+pub ipv6-write-asks-nothing : (κs : Lfts 2) (prefix : Slice) (a : ℕ) (out : Slice) → ipv6-write-reads.Asked κs (prefix, (a, (out, tt)))
+ipv6-write-asks-nothing κs prefix a out = tt
+
+pub ipv6-read-asks-nothing : (κs : Lfts 2) (prefix ipv6 : Slice) → ipv6-read-reads.Asked κs (prefix, (ipv6, tt))
+ipv6-read-asks-nothing κs prefix ipv6 = tt
+
+pub path-asks-nothing : (κs : Lfts 1) (a d : ℕ) (words : Slice) → path-reads.Asked κs (a, (d, (words, tt)))
+path-asks-nothing κs a d words = tt
