@@ -4,5 +4,6 @@ pub mod Start
 pub mod Parts
 pub mod Cases
 pub mod Writing
+pub mod RefusalLaws
 pub mod Demand2
 pub mod Promises

@@ -1,14 +1,12 @@
 -- Octets and numbers correspond one to one by the laws of octets; a number is zero only by zeros, since the last octet is added to 256 times
 -- what the others give. Assumes nothing.
 use mathlib.Core.Path.{_≡_, refl, sym, ap, ap₂, _∙_}
-use mathlib.Core.Bool.{true}
-use mathlib.Core.Logic.{_↔_}
 use mathlib.Core.List.{List, [], _∷_}
 use Prim.Native.Nat.{ℕ, zero, suc, _+_, _*_, _^_}
 use native.Mathlib.Nat.{zero-add}
 use native.Mathlib.Omega.{arith}
 use lib.ListN.{length, replicate}
-use Rattle.octets.specs.Octets.{octets, joined, value, same}
+use Rattle.octets.specs.Octets.{joined, value, same}
 use Rattle.octets.specs.OneToOne.{SameExactly, OneToOne}
 use Rattle.octets.proofs.OctetLaws.{length-octets, octets-octets, value-octets-of-lt, octets-value, value-lt, value-append}
 use Rattle.octets.proofs.SameLaws.{same-refl, same-true}

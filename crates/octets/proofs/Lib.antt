@@ -3,4 +3,5 @@ pub mod OctetLaws
 pub mod SameLaws
 pub mod Correspondence
 pub mod LentLaws
+pub mod Decided
 pub mod Promises
