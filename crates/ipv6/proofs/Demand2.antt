@@ -1,25 +1,22 @@
 -- Demand 2 for the IPv6 form: the octets of an address give it back, and what reads as an address is its prefix and its octets. Two wrong
 -- writers are refuted at the prefix and the buffer of zeros. Assumes nothing.
 use mathlib.Core.Path.{_≡_, refl, sym, ap, ap₂, _∙_}
-use mathlib.Core.Bool.{Bool, true, false, not, _&&_, and-eq-true-iff}
 use mathlib.Core.List.{List, _++_}
-use Prim.Native.Nat.{ℕ, suc, _<_, _≤_}
+use Prim.Native.Nat.{ℕ, _<_, _≤_}
 use native.Mathlib.Omega.{arith}
 use lib.ListN.{length, take, drop, replicate, length-drop, take-append-drop}
 use lib.Seq.{take-at, drop-at}
-use lib.Dec.{eqb, lit<, lit≤}
-use borrow.Author.Tests.{not-false, eqb-true, eqb-false, ne-eqb}
-use Rattle.address.specs.Choice.{if_then_else_}
+use lib.Dec.{lit<, lit≤}
+use borrow.Author.Tests.{ne-eqb}
 use Rattle.address.specs.Numbers.{IsAddress}
-use Rattle.address.specs.Address.{AddressAnswer, validAddress, refusedAddress, made}
+use Rattle.address.specs.Address.{AddressAnswer, validAddress, made}
 use Rattle.octets.specs.Octets.{octets, value, joined, same, AreOctets, wrote, write, refuseWriting}
 use Rattle.octets.specs.declared.Written.{Written}
 use Rattle.octets.proofs.OctetLaws.{octets-value, value-octets-of-lt, value-fits, drop-octets}
-use Rattle.octets.proofs.SameLaws.{same-true}
 use Rattle.ipv6.specs.Form.{half, whole, form, formWriting, formReading}
 use Rattle.ipv6.specs.RoundTrip.{RoundTrip}
 use Rattle.ipv6.specs.WrongWriters.{silentWriter, refusingWriter}
-use Rattle.ipv6.proofs.FormLaws.{length-form, formWriting-done, formReading-same}
+use Rattle.ipv6.proofs.FormLaws.{length-form, formWriting-done, formReading-same, Read, formReading-valid}
 
 -- an address is written, and leaves its form in front
 written : (prefix : List ℕ) (a : ℕ) (buffer : List ℕ) → length prefix ≡ half → 0 < a → whole ≤ length buffer
@@ -40,36 +37,6 @@ formReading-form prefix a l address =
     ∙ ap (λ (os : List ℕ). made (value os)) (drop-at prefix (octets half a) half l)
     ∙ ap made (value-octets-of-lt half a (address .fits))
     ∙ made-some a (address .some)
-
--- a choice between a refusal and what the next check says is an address only by the next check
-else-valid : {a : ℕ} (t : Bool) (n : ℕ) (rest : AddressAnswer) → (if t then refusedAddress (suc n) else rest) ≡ validAddress a
-    → (t ≡ false) × (rest ≡ validAddress a)
-else-valid true n rest e = absurd (omega (arith, ap (λ (x : AddressAnswer). x .refusal) e))
-else-valid false n rest e = (refl, e)
-
--- what reads as an address
-record Read (prefix ipv6 : List ℕ) (a : ℕ) : Type 0 where
-  prefixed : length prefix ≡ half
-  sized : length ipv6 ≡ whole
-  front : take half ipv6 ≡ prefix
-  back : value (drop half ipv6) ≡ a
-  some : 0 < a
-
-formReading-valid : (prefix ipv6 : List ℕ) (a : ℕ) → formReading prefix ipv6 ≡ validAddress a → Read prefix ipv6 a
-unfolding formReading
-formReading-valid prefix ipv6 a e =
-    let lengths = else-valid (not (eqb (length prefix) half && eqb (length ipv6) whole)) 11 _ e in
-    let front = else-valid (not (same (take half ipv6) prefix)) 7 _ (lengths .1) in
-    let back = else-valid (eqb (value (drop half ipv6)) 0) 8 _ (front .1) in
-    let both = and-eq-true-iff (eqb (length prefix) half) (eqb (length ipv6) whole) .0 (not-false _ (lengths .0)) in
-    let is : value (drop half ipv6) ≡ a = ap (λ (x : AddressAnswer). x .address) (back .1) in
-    record {
-      prefixed = eqb-true (length prefix) half (both .0);
-      sized = eqb-true (length ipv6) whole (both .1);
-      front = same-true (take half ipv6) prefix (not-false _ (front .0));
-      back = is;
-      some = omega (arith, eqb-false (value (drop half ipv6)) 0 (back .0));
-    }
 
 form-read : {prefix ipv6 : List ℕ} {a : ℕ} → AreOctets ipv6 → Read prefix ipv6 a → IsAddress a × (form prefix a ≡ ipv6)
 unfolding form

@@ -1,4 +1,5 @@
 -- The laws of the ipv6 crate.
 pub mod FormLaws
+pub mod RefusalLaws
 pub mod Demand2
 pub mod Promises
