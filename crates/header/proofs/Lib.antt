@@ -6,4 +6,6 @@ pub mod Cases
 pub mod Writing
 pub mod RefusalLaws
 pub mod Demand2
+pub mod WrongWriters
+pub mod WrongReaders
 pub mod Promises

@@ -4,3 +4,4 @@ pub mod Fewest
 pub mod Refusals
 pub mod RoundTrip
 pub mod WrongWriters
+pub mod WrongReaders
