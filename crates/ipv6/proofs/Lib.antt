@@ -2,4 +2,6 @@
 pub mod FormLaws
 pub mod RefusalLaws
 pub mod Demand2
+pub mod WrongWriters
+pub mod WrongReaders
 pub mod Promises

@@ -13,7 +13,7 @@ use Rattle.address.specs.Choice.{if_then_else_}
 use Rattle.address.specs.Order.{First}
 use Rattle.address.specs.Address.{AddressAnswer, validAddress, refusedAddress}
 use Rattle.address.proofs.OrderLaws.{given-exactly}
-use Rattle.octets.specs.Octets.{value, same, refuseWriting, write}
+use Rattle.octets.specs.Octets.{value, same, WriteEffect, refuseWriting, write}
 use Rattle.octets.proofs.Correspondence.{value-zero, value-zeros}
 use Rattle.octets.proofs.Decided.{decided}
 use Rattle.octets.proofs.LentLaws.{refusal-refuseWriting, refusal-write, Outcome, outcome-leaves, outcome-writes}
@@ -31,9 +31,14 @@ module _ (prefix : List ℕ) (a : ℕ) (buffer : List ℕ) where
   unfolding formWriting
   formWriting-outcome = go (not (eqb (length prefix) half)) (eqb a 0) (ltb (length buffer) whole)
     where
-      go : (other zero short : Bool)
-          → Outcome (form prefix a) buffer
-          (if other then refuseWriting 12 buffer else if zero then refuseWriting 9 buffer else if short then refuseWriting 10 buffer else write (form prefix a) buffer)
+      effect : (other zero short : Bool) → WriteEffect
+      effect other zero short =
+          if other then refuseWriting 12 buffer
+          else if zero then refuseWriting 9 buffer
+          else if short then refuseWriting 10 buffer
+          else write (form prefix a) buffer
+
+      go : (other zero short : Bool) → Outcome (form prefix a) buffer (effect other zero short)
       go true zero short = inl (11, refl)
       go false true short = inl (8, refl)
       go false false true = inl (9, refl)
@@ -41,7 +46,8 @@ module _ (prefix : List ℕ) (a : ℕ) (buffer : List ℕ) where
 
   first-formWriting : First (formWritingOrder prefix a buffer) (formWriting prefix a buffer .answer .refusal)
   first-formWriting =
-      decided (Dec·not (ℕ-discrete (length prefix) half)) (λ other. refusal-refuseWriting 12 buffer (formWriting-length prefix a buffer other)) λ eight.
+      decided (Dec·not (ℕ-discrete (length prefix) half))
+      (λ other. refusal-refuseWriting 12 buffer (formWriting-length prefix a buffer other)) λ eight.
       let l = is (ℕ-discrete (length prefix) half) eight in
       decided (ℕ-discrete a 0) (λ e. refusal-refuseWriting 9 buffer (formWriting-zero prefix a buffer l e)) λ some.
       decided (decLt (length buffer) whole) (λ short. refusal-refuseWriting 10 buffer (formWriting-room prefix a buffer l some short)) λ room.

@@ -3,3 +3,4 @@ pub mod Form
 pub mod Refusals
 pub mod RoundTrip
 pub mod WrongWriters
+pub mod WrongReaders

@@ -24,7 +24,8 @@ formWritingOrder prefix a buffer =
     otherwise done
 
 pub record FormWriteRefusals : Type 0 where
-  pub given : (prefix : List ℕ) (a : ℕ) (buffer : List ℕ) → GivenExactly (formWritingOrder prefix a buffer) (formWriting prefix a buffer .answer .refusal)
+  pub given : (prefix : List ℕ) (a : ℕ) (buffer : List ℕ)
+      → GivenExactly (formWritingOrder prefix a buffer) (formWriting prefix a buffer .answer .refusal)
   pub beside : (prefix : List ℕ) (a : ℕ) (buffer : List ℕ) → RefusalLeaves buffer (formWriting prefix a buffer)
   pub without : (prefix : List ℕ) (a : ℕ) (buffer : List ℕ) → SuccessWrites (form prefix a) buffer (formWriting prefix a buffer)
 
