@@ -2,32 +2,32 @@
 -- no zeros in front (`reading-header`); and octets that are read were checked octet by octet for what a header has (`header-read`). Assumes
 -- nothing.
 use mathlib.Core.Path.{_≡_, refl, sym, ap, ap₂, _∙_, subst}
-use mathlib.Core.Bool.{true, false}
-use mathlib.Core.List.{List, [], _∷_, _++_}
-use mathlib.Core.Logic.{_⊎_, inl, inr}
-use Prim.Native.Nat.{ℕ, zero, suc, _+_, _-_, _*_, _/_, _%_, _^_, _≤_, _<_}
+use mathlib.Core.Bool.{true}
+use mathlib.Core.List.{List, _∷_, _++_, append-assoc}
+use mathlib.Core.Logic.{inl, inr}
+use Prim.Native.Nat.{ℕ, _+_, _-_, _*_, _/_, _%_, _^_, _≤_, _<_}
 use native.Mathlib.Nat.{lt-of-lt-of-le, one-le-pow, pos-of-ne-zero}
 use native.Mathlib.Decide.{ℕ-discrete}
 use native.Mathlib.Omega.{arith}
-use borrow.Author.Tests.{eq-eqb, ne-eqb, le-ltb, eqb-true, eqb-false}
-use lib.Dec.{lit<, lit≤, eqb}
-use lib.ListN.{length, take, drop, getD, length-append}
-use lib.Seq.{take-at, take-add}
-use Rattle.address.specs.Choice.{if_then_else_}
+use borrow.Author.Tests.{eq-eqb, ne-eqb, le-ltb, eqb-false}
+use lib.Dec.{lit<, eqb}
+use lib.ListN.{length, take, drop, getD, length-append, length-drop}
+use lib.Seq.{take-at, take-add, drop-at}
 use Rattle.octets.specs.declared.Written.{Written}
-use Rattle.address.specs.Bits.{bits, bitsIn}
-use Rattle.address.specs.Address.{bitLength}
+use Rattle.address.specs.Order.{First}
+use Rattle.address.specs.Bits.{longest}
 use Rattle.address.specs.Numbers.{IsAddress}
-use Rattle.octets.specs.Octets.{octets, value, AreOctets, WriteEffect, write, wrote, refuseWriting}
+use Rattle.octets.specs.Octets.{octets, value, AreOctets, WriteEffect, write, wrote}
 use Rattle.address.proofs.ChoiceLaws.{if-zero}
 use Rattle.octets.proofs.OctetLaws.{length-octets, value-octets-of-lt, octets-octets, octets-value, value-lt, value-fits, value-lt-of-zeros, value-ge-of-zeros}
-use Rattle.header.specs.Header.{header, place, size, unit, mostOctets, fixedOctets, pageOctet, criticalPattern, routingType, sizeAllowed, writing, reading, found, refusedHeader, HeaderAnswer, startFault, inOrder, hasCriticalPattern, sizeTold, addressFault, zeroFault, addressOctets}
+use Rattle.header.specs.Header.{header, place, size, unit, fixedOctets, pageOctet, criticalPattern, routingType, sizeAllowed, writing, reading, found, startFault, inOrder, sizeTold, addressFault, zeroFault, addressOctets}
 use Rattle.header.specs.RoundTrip.{RoundTrip}
-use Rattle.header.specs.WrongWriters.{silentWriter, refusingWriter}
 use Rattle.header.proofs.Size.{size-le, size-ge, size-allowed, size-exact, size-least, sizeAllowed-le, sizeAllowed-ge, fewest-pairs}
 use Rattle.header.proofs.Start.{startFault-zero}
 use Rattle.header.proofs.Parts.{length-addressOctets, octets-addressOctets, addressFault-zero}
 use Rattle.header.proofs.Cases.{reading-found, reading-inverse}
+use Rattle.header.specs.Refusals.{writingOrder}
+use Rattle.header.proofs.RefusalLaws.{header-write-refusals}
 use Rattle.header.proofs.Writing.{length-header, writing-done}
 
 -- ---- what is written reads back
@@ -167,8 +167,37 @@ wrote-header a buffer n h =
       ap (λ (w : WriteEffect). w .buffer) done ∙ ap (λ (k : ℕ). header a ++ drop k buffer) (length-header a),
     )
 
+-- an answer without a refusal: the address was not zero, and there was room
+writing-room : (a : ℕ) (buffer : List ℕ) → writing a buffer .answer .refusal ≡ 0 → (0 < a) × (place a ≤ length buffer)
+writing-room a buffer z = go (header-write-refusals .given a buffer 0 .0 z)
+  where
+    go : First (writingOrder a buffer) 0 → (0 < a) × (place a ≤ length buffer)
+    go (inl (e, f)) = absurd (omega arith)
+    go (inr (some, inl (h, f))) = absurd (omega arith)
+    go (inr (some, inr (room, f))) = (pos-of-ne-zero some, omega (arith, length-header a))
+
+-- wherever a number was written, it reads back, and what stood behind it still does
+where-done : (a : ℕ) (buffer payload : List ℕ) (n : ℕ) → a < 2 ^ longest → writing a buffer .answer ≡ wrote n
+    → (reading (writing a buffer .buffer ++ payload) ≡ found a n)
+    × (drop n (writing a buffer .buffer) ≡ drop n buffer)
+    × (length (writing a buffer .buffer) ≡ length buffer)
+where-done a buffer payload n fits e =
+    let (some, room) = writing-room a buffer (ap (λ (w : Written). w .refusal) e) in
+    let address : IsAddress a = record { some = some; fits = fits } in
+    let (answered, left) = wrote-header a buffer address room in
+    let end : n ≡ place a = ap (λ (w : Written). w .count) (sym e ∙ answered) in
+    let rest = drop (place a) buffer in (
+      ap (λ (l : List ℕ). reading (l ++ payload)) left
+          ∙ ap reading (append-assoc (header a) rest payload)
+          ∙ reading-header address (rest ++ payload)
+          ∙ ap (found a) (sym end),
+      ap (drop n) left ∙ drop-at (header a) rest n (length-header a ∙ sym end) ∙ ap (λ (k : ℕ). drop k buffer) (sym end),
+      ap length left ∙ omega (arith, length-append (header a) rest, length-header a, length-drop (place a) buffer),
+    )
+
 pub round-trip : RoundTrip writing reading
 round-trip = record {
+  whereDone = where-done;
   readsBack = λ a buffer n h.
       let (answered, left) = wrote-header a buffer n h in (answered, ap reading left ∙ reading-header n (drop (place a) buffer));
   writtenSo = λ p a k all e.
@@ -182,19 +211,3 @@ round-trip = record {
             ),
       );
 }
-
--- ---- wrong writers
-
-one : IsAddress 1
-one = record { some = lit< tt; fits = lit< tt }
-
-zeros : List ℕ
-zeros = 0 ∷ 0 ∷ 0 ∷ 0 ∷ 0 ∷ []
-
-pub silent-writer-refuted : RoundTrip silentWriter reading → ⊥
-unfolding silentWriter zeros reading startFault inOrder place size bitLength bits bitsIn
-silent-writer-refuted claim = omega (arith, ap (λ (x : HeaderAnswer). x .refusal) (claim .readsBack 1 zeros one (lit≤ tt) .1))
-
-pub refusing-writer-refuted : RoundTrip refusingWriter reading → ⊥
-unfolding refusingWriter refuseWriting zeros place size bitLength bits bitsIn
-refusing-writer-refuted claim = omega (arith, ap (λ (w : Written). w .refusal) (claim .readsBack 1 zeros one (lit≤ tt) .0))

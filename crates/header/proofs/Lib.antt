@@ -4,5 +4,8 @@ pub mod Start
 pub mod Parts
 pub mod Cases
 pub mod Writing
+pub mod RefusalLaws
 pub mod Demand2
+pub mod WrongWriters
+pub mod WrongReaders
 pub mod Promises

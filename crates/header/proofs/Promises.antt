@@ -1,5 +1,5 @@
--- What the functions of this crate promise, by their contracts as the code states them, is `writing` and `reading`: the definitions of which
--- demand 2 is proved.
+-- What the functions of this crate promise, by their contracts as the code states them, is `writing` and `reading`, the definitions of which
+-- demands 1 and 2 are proved; and they ask nothing.
 use mathlib.Core.Path.{_≡_, sym, ap, ap₂, _∙_}
 use mathlib.Core.List.{List}
 use Prim.Native.Nat.{ℕ}
@@ -18,10 +18,16 @@ use Rattle.header.proofs.read.Reads as read-reads
 abbrev Slice : Type 0
 Slice = RefT (List ℕ)
 
+pub write-asks-nothing : (κs : Lfts 1) (address : Address) (out : Slice) → write-reads.Asked κs (address, (out, tt))
+write-asks-nothing κs address out = tt
+
 pub write-promise : (κs : Lfts 1) (address : Address) (out last : Slice) (r : Written)
     → write-reads.Learnt κs (address, (out, tt)) r (address, (last, tt))
     → record { answer = r; buffer = now last } ≡ writing (address .number) (now out)
 write-promise κs address out last r h = ap₂ (λ (w : Written) (b : List ℕ). record { answer = w; buffer = b }) (h .0) (h .1)
+
+pub read-asks-nothing : (κs : Lfts 1) (packet : Slice) → read-reads.Asked κs (packet, tt)
+read-asks-nothing κs packet = tt
 
 pub read-promise : (κs : Lfts 1) (packet : Slice) (r : Reading)
     → read-reads.Learnt κs (packet, tt) r (packet, tt)

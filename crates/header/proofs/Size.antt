@@ -2,17 +2,19 @@
 -- the bit length up to whole units, so the fewest that hold the number are those. Assumes nothing.
 use mathlib.Core.Path.{_≡_, refl, sym, ap, ap₂, _∙_, subst}
 use mathlib.Core.Bool.{true, _&&_, and-eq-true-iff}
+use mathlib.Core.Logic.{_⊎_, inl, inr}
 use Prim.Native.Nat.{ℕ, zero, suc, _+_, _*_, _-_, _/_, _%_, _^_, _≤_, _<_}
 use native.Mathlib.Nat.{pow-suc, mul-suc, lt-of-not-le, not-le-of-lt, lt-of-le-of-lt, lt-of-lt-of-le, le-trans}
+use native.Mathlib.Decide.{ℕ-discrete}
 use native.Mathlib.Omega.{arith}
 use borrow.Author.Tests.{le-leb, leb-true, eq-eqb, eqb-true}
-use lib.Dec.{leb, eqb}
+use lib.Dec.{leb, eqb, lit<}
 use lib.Pow.{pow-add, pow-mono}
 use Rattle.address.specs.Bits.{longest}
 use Rattle.address.specs.Address.{bitLength}
 use Rattle.address.specs.Numbers.{IsAddress}
 use Rattle.address.proofs.Numbers.{bitLength-le, bitLength-pos, lt-bitLength, ge-bitLength}
-use Rattle.header.specs.Header.{size, sizeAllowed, unit, mostOctets}
+use Rattle.header.specs.Header.{size, sizeAllowed, IsSize, unit, mostOctets}
 use Rattle.header.specs.Fewest.{IsFewest, FewestPairs}
 
 octets-pow : (s : ℕ) → 256 ^ s ≡ 2 ^ (8 * s)
@@ -60,12 +62,29 @@ sizeAllowed-le h = allowed-parts h .0
 pub sizeAllowed-ge : {s : ℕ} → sizeAllowed s ≡ true → 0 < s → unit ≤ s
 sizeAllowed-ge h some = omega (arith, allowed-parts h)
 
+-- the test is right about every size that is at least 1
+pub sizeAllowed-true : {s : ℕ} → sizeAllowed s ≡ true → 0 < s → IsSize s
+sizeAllowed-true {s} h some = go (ℕ-discrete s 2) (ℕ-discrete s 4) (ℕ-discrete s 6)
+  where
+    go : Dec (s ≡ 2) → Dec (s ≡ 4) → Dec (s ≡ 6) → IsSize s
+    go (yes e) d f = inl e
+    go (no n) (yes e) f = inr (inl e)
+    go (no n) (no m) (yes e) = inr (inr (inl e))
+    go (no n) (no m) (no l) = inr (inr (inr (omega (arith, allowed-parts h))))
+
+pub size-sizeAllowed : {s : ℕ} → IsSize s → sizeAllowed s ≡ true
+unfolding sizeAllowed
+size-sizeAllowed (inl e) = rw e
+size-sizeAllowed (inr (inl e)) = rw e
+size-sizeAllowed (inr (inr (inl e))) = rw e
+size-sizeAllowed (inr (inr (inr e))) = rw e
+
 pub fewest-pairs : FewestPairs
 unfolding size
 fewest-pairs a n = record {
-  allowed = size-allowed (n .fits);
+  allowed = sizeAllowed-true (size-allowed (n .fits)) (lt-of-lt-of-le (lit< tt) (size-ge n));
   holds = lt-octets (size a) n (omega arith);
-  fewest = λ s ok h. omega (arith, bitLength-le-octets s n h, allowed-parts ok);
+  fewest = λ s ok h. omega (arith, bitLength-le-octets s n h, allowed-parts (size-sizeAllowed ok));
 }
 
 -- the size of a number that s octets hold, and no fewer units of them

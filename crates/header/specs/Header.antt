@@ -2,6 +2,8 @@
 -- choice); octet 15 as the type (house choice until a number is assigned); the address, most significant octet first; the payload, which
 -- may be empty."
 use Prim.Native.Nat.{ℕ, _+_, _*_, _-_, _/_, _%_}
+use mathlib.Core.Path.{_≡_}
+use mathlib.Core.Logic.{_⊎_}
 use mathlib.Core.Bool.{Bool, true, false, not, _&&_}
 use mathlib.Core.List.{List, [], _∷_, _++_}
 use lib.ListN.{length, take, drop, getD}
@@ -27,7 +29,11 @@ mostOctets = 8
 unfoldable pub size : ℕ → ℕ
 size a = (bitLength a + (8 * unit - 1)) / (8 * unit) * unit
 
--- "2, 4, 6 or 8 octets", of a size that is at least 1
+-- "2, 4, 6 or 8 octets"
+abbrev pub IsSize : ℕ → Type 0
+IsSize s = (s ≡ 2) ⊎ (s ≡ 4) ⊎ (s ≡ 6) ⊎ (s ≡ 8)
+
+-- the test for it, of a size that is at least 1
 unfoldable pub sizeAllowed : ℕ → Bool
 sizeAllowed s = leb s mostOctets && eqb (s % unit) 0
 

@@ -1,9 +1,10 @@
 -- Demand 2 for the header: "Every address we write as a header .. reads back as itself, and every header .. we accept is the one we would
 -- have written." It is a statement of any writer and any reader, at what they do to buffers, so that a wrong one can be refuted by it.
 use mathlib.Core.Path.{_≡_}
-use mathlib.Core.List.{List}
-use Prim.Native.Nat.{ℕ, _≤_}
-use lib.ListN.{length, take}
+use mathlib.Core.List.{List, _++_}
+use Prim.Native.Nat.{ℕ, _^_, _≤_, _<_}
+use lib.ListN.{length, take, drop}
+use Rattle.address.specs.Bits.{longest}
 use Rattle.address.specs.Numbers.{IsAddress}
 use Rattle.octets.specs.Octets.{WriteEffect, AreOctets, wrote}
 use Rattle.header.specs.Header.{HeaderAnswer, found, place}
@@ -19,6 +20,12 @@ pub record RoundTrip (writer : Writer) (reader : Reader) : Type 0 where
   -- in every buffer that has room the address is written, and the buffer reads as the address; what stood behind is the payload
   pub readsBack : (a : ℕ) (buffer : List ℕ) → IsAddress a → place a ≤ length buffer
       → (writer a buffer .answer ≡ wrote (place a)) × (reader (writer a buffer .buffer) ≡ found a (place a))
+  -- in EVERY buffer, with every payload behind it: where the writer answers n without a refusal, the buffer as it then stands reads as the
+  -- address at place n, and behind n it is as it was: "On success only the words or octets named are written."
+  pub whereDone : (a : ℕ) (buffer payload : List ℕ) (n : ℕ) → a < 2 ^ longest → writer a buffer .answer ≡ wrote n
+      → (reader (writer a buffer .buffer ++ payload) ≡ found a n)
+      × (drop n (writer a buffer .buffer) ≡ drop n buffer)
+      × (length (writer a buffer .buffer) ≡ length buffer)
   -- whatever octets read as an address are, up to the place, those that we write into any buffer that holds them
   pub writtenSo : (p : List ℕ) (a k : ℕ) → AreOctets p → reader p ≡ found a k
       → IsAddress a × (k ≤ length p)

@@ -1,13 +1,27 @@
--- Two wrong writers, which demand 2 must exclude.
-use mathlib.Core.List.{List}
-use Prim.Native.Nat.{ℕ}
-use Rattle.octets.specs.Octets.{WriteEffect, wrote, refuseWriting}
-use Rattle.header.specs.Header.{place}
+-- Wrong writers, which demand 2 must exclude.
+use lib.Dec.{eqb}
+use lib.ListN.{length, take, set}
+use Rattle.address.specs.Choice.{if_then_else_}
+use Rattle.octets.specs.Octets.{wrote, refuseWriting, write}
+use Rattle.header.specs.Header.{place, header, writing}
+use Rattle.header.specs.RoundTrip.{Writer}
 
 -- "One that writes no header yet says done": the buffer stays as it was
-unfoldable pub silentWriter : ℕ → List ℕ → WriteEffect
+unfoldable pub silentWriter : Writer
 silentWriter a buffer = record { answer = wrote (place a); buffer = buffer }
 
 -- "One that refuses everything"
-unfoldable pub refusingWriter : ℕ → List ℕ → WriteEffect
+unfoldable pub refusingWriter : Writer
 refusingWriter a buffer = refuseWriting 10 buffer
+
+-- it says done without room, and writes what fits; right otherwise
+unfoldable pub roomlessWriter : Writer
+roomlessWriter a buffer =
+    if eqb a 0 then refuseWriting 9 buffer
+    else record { answer = wrote (place a); buffer = take (length buffer) (write (header a) buffer .buffer) }
+
+-- it spoils the octet behind the header; right otherwise
+unfoldable pub spoilingWriter : Writer
+spoilingWriter a buffer =
+    if eqb (writing a buffer .answer .refusal) 0 then record { answer = wrote (place a); buffer = set (writing a buffer .buffer) (place a) 0xFF }
+    else writing a buffer

@@ -1,25 +1,28 @@
--- Demand 2 for the IPv6 form: the octets of an address give it back, and what reads as an address is its prefix and its octets. Two wrong
--- writers are refuted at the prefix and the buffer of zeros. Assumes nothing.
-use mathlib.Core.Path.{_≡_, refl, sym, ap, ap₂, _∙_}
-use mathlib.Core.Bool.{Bool, true, false, not, _&&_, and-eq-true-iff}
+-- Demand 2 for the IPv6 form: the octets of an address give it back, and what reads as an address is its prefix and its octets. Assumes
+-- nothing.
+use mathlib.Core.Path.{_≡_, sym, ap, ap₂, _∙_}
+use mathlib.Core.Logic.{inl, inr}
 use mathlib.Core.List.{List, _++_}
-use Prim.Native.Nat.{ℕ, suc, _<_, _≤_}
+use Prim.Native.Nat.{ℕ, _^_, _<_, _≤_}
+use native.Mathlib.Nat.{pos-of-ne-zero}
+use native.Mathlib.Decide.{ℕ-discrete}
 use native.Mathlib.Omega.{arith}
-use lib.ListN.{length, take, drop, replicate, length-drop, take-append-drop}
+use lib.ListN.{length, take, drop, length-append, length-drop, take-append-drop}
 use lib.Seq.{take-at, drop-at}
-use lib.Dec.{eqb, lit<, lit≤}
-use borrow.Author.Tests.{not-false, eqb-true, eqb-false, ne-eqb}
-use Rattle.address.specs.Choice.{if_then_else_}
+use borrow.Author.Tests.{ne-eqb}
+use Rattle.address.specs.Order.{First}
+use Rattle.address.specs.Bits.{longest}
 use Rattle.address.specs.Numbers.{IsAddress}
-use Rattle.address.specs.Address.{AddressAnswer, validAddress, refusedAddress, made}
-use Rattle.octets.specs.Octets.{octets, value, joined, same, AreOctets, wrote, write, refuseWriting}
+use Rattle.address.specs.Address.{validAddress, made}
+use Rattle.octets.specs.Octets.{octets, value, AreOctets, WriteEffect, wrote, write}
 use Rattle.octets.specs.declared.Written.{Written}
+use Rattle.octets.proofs.Decided.{holds}
 use Rattle.octets.proofs.OctetLaws.{octets-value, value-octets-of-lt, value-fits, drop-octets}
-use Rattle.octets.proofs.SameLaws.{same-true}
 use Rattle.ipv6.specs.Form.{half, whole, form, formWriting, formReading}
+use Rattle.ipv6.specs.Refusals.{formWritingOrder}
 use Rattle.ipv6.specs.RoundTrip.{RoundTrip}
-use Rattle.ipv6.specs.WrongWriters.{silentWriter, refusingWriter}
-use Rattle.ipv6.proofs.FormLaws.{length-form, formWriting-done, formReading-same}
+use Rattle.ipv6.proofs.FormLaws.{length-form, formWriting-done, formReading-same, Read, formReading-valid}
+use Rattle.ipv6.proofs.RefusalLaws.{form-write-refusals}
 
 -- an address is written, and leaves its form in front
 written : (prefix : List ℕ) (a : ℕ) (buffer : List ℕ) → length prefix ≡ half → 0 < a → whole ≤ length buffer
@@ -41,47 +44,50 @@ formReading-form prefix a l address =
     ∙ ap made (value-octets-of-lt half a (address .fits))
     ∙ made-some a (address .some)
 
--- a choice between a refusal and what the next check says is an address only by the next check
-else-valid : {a : ℕ} (t : Bool) (n : ℕ) (rest : AddressAnswer) → (if t then refusedAddress (suc n) else rest) ≡ validAddress a
-    → (t ≡ false) × (rest ≡ validAddress a)
-else-valid true n rest e = absurd (omega (arith, ap (λ (x : AddressAnswer). x .refusal) e))
-else-valid false n rest e = (refl, e)
-
--- what reads as an address
-record Read (prefix ipv6 : List ℕ) (a : ℕ) : Type 0 where
-  prefixed : length prefix ≡ half
-  sized : length ipv6 ≡ whole
-  front : take half ipv6 ≡ prefix
-  back : value (drop half ipv6) ≡ a
-  some : 0 < a
-
-formReading-valid : (prefix ipv6 : List ℕ) (a : ℕ) → formReading prefix ipv6 ≡ validAddress a → Read prefix ipv6 a
-unfolding formReading
-formReading-valid prefix ipv6 a e =
-    let lengths = else-valid (not (eqb (length prefix) half && eqb (length ipv6) whole)) 11 _ e in
-    let front = else-valid (not (same (take half ipv6) prefix)) 7 _ (lengths .1) in
-    let back = else-valid (eqb (value (drop half ipv6)) 0) 8 _ (front .1) in
-    let both = and-eq-true-iff (eqb (length prefix) half) (eqb (length ipv6) whole) .0 (not-false _ (lengths .0)) in
-    let is : value (drop half ipv6) ≡ a = ap (λ (x : AddressAnswer). x .address) (back .1) in
-    record {
-      prefixed = eqb-true (length prefix) half (both .0);
-      sized = eqb-true (length ipv6) whole (both .1);
-      front = same-true (take half ipv6) prefix (not-false _ (front .0));
-      back = is;
-      some = omega (arith, eqb-false (value (drop half ipv6)) 0 (back .0));
-    }
-
 form-read : {prefix ipv6 : List ℕ} {a : ℕ} → AreOctets ipv6 → Read prefix ipv6 a → IsAddress a × (form prefix a ≡ ipv6)
 unfolding form
 form-read {prefix} {ipv6} {a} all r =
     let last = drop half ipv6 in
     let l : length last ≡ half = length-drop half ipv6 ∙ omega (arith, r .sized) in (
       record { some = r .some; fits = omega (arith, value-fits last (drop-octets half ipv6 all) (omega arith), r .back) },
-      ap₂ (λ (x y : List ℕ). x ++ y) (sym (r .front)) (ap₂ octets (sym l) (sym (r .back)) ∙ octets-value last (drop-octets half ipv6 all)) ∙ take-append-drop half ipv6,
+      ap₂ (λ (x y : List ℕ). x ++ y) (sym (r .front)) (ap₂ octets (sym l) (sym (r .back)) ∙ octets-value last (drop-octets half ipv6 all))
+          ∙ take-append-drop half ipv6,
+    )
+
+-- an answer without a refusal: the prefix was 8 octets, the address not zero, and there was room
+formWriting-right : (prefix : List ℕ) (a : ℕ) (buffer : List ℕ) → formWriting prefix a buffer .answer .refusal ≡ 0
+    → (length prefix ≡ half) × (0 < a) × (whole ≤ length buffer)
+formWriting-right prefix a buffer z = go (form-write-refusals .given prefix a buffer 0 .0 z)
+  where
+    go : First (formWritingOrder prefix a buffer) 0 → (length prefix ≡ half) × (0 < a) × (whole ≤ length buffer)
+    go (inl (other, f)) = absurd (omega arith)
+    go (inr (eight, inl (e, f))) = absurd (omega arith)
+    go (inr (eight, inr (some, inl (h, f)))) = absurd (omega arith)
+    go (inr (eight, inr (some, inr (room, f)))) = (holds (ℕ-discrete (length prefix) half) eight, pos-of-ne-zero some, omega arith)
+
+-- wherever a number was written, it reads back, and what stood behind it still does
+where-done : (prefix : List ℕ) (a : ℕ) (buffer : List ℕ) (n : ℕ) → a < 2 ^ longest → formWriting prefix a buffer .answer ≡ wrote n
+    → (n ≡ whole)
+    × (formReading prefix (take whole (formWriting prefix a buffer .buffer)) ≡ validAddress a)
+    × (drop whole (formWriting prefix a buffer .buffer) ≡ drop whole buffer)
+    × (length (formWriting prefix a buffer .buffer) ≡ length buffer)
+unfolding write
+where-done prefix a buffer n fits e =
+    let (l, some, room) = formWriting-right prefix a buffer (ap (λ (w : Written). w .refusal) e) in
+    let (answered, front) = written prefix a buffer l some room in
+    let os = form prefix a in
+    let many = length-form prefix a l in
+    let left : formWriting prefix a buffer .buffer ≡ os ++ drop whole buffer =
+    ap (λ (w : WriteEffect). w .buffer) (formWriting-done prefix a buffer l (λ z. omega arith) room) ∙ ap (λ (k : ℕ). os ++ drop k buffer) many in (
+      ap (λ (w : Written). w .count) (sym e ∙ answered),
+      ap (formReading prefix) front ∙ formReading-form prefix a l (record { some = some; fits = fits }),
+      ap (drop whole) left ∙ drop-at os (drop whole buffer) whole many,
+      ap length left ∙ omega (arith, length-append os (drop whole buffer), length-drop whole buffer),
     )
 
 pub round-trip : RoundTrip formWriting formReading
 round-trip = record {
+  whereDone = where-done;
   readsBack = λ prefix a buffer l address room.
       let w = written prefix a buffer l (address .some) room in
       (w .0, ap (formReading prefix) (w .1) ∙ formReading-form prefix a l address);
@@ -90,18 +96,3 @@ round-trip = record {
       let f = form-read all r in
       (f .0, r .prefixed, r .sized, λ buffer room. let w = written prefix a buffer (r .prefixed) (r .some) room in (w .0, w .1 ∙ f .1));
 }
-
--- ---- wrong writers
-
-one : IsAddress 1
-one = record { some = lit< tt; fits = lit< tt }
-
-pub silent-writer-refuted : RoundTrip silentWriter formReading → ⊥
-unfolding silentWriter formReading same value joined
-silent-writer-refuted claim =
-    omega (arith, ap (λ (x : AddressAnswer). x .refusal) (claim .readsBack (replicate half 0) 1 (replicate whole 0) refl one (lit≤ tt) .1))
-
-pub refusing-writer-refuted : RoundTrip refusingWriter formReading → ⊥
-unfolding refusingWriter refuseWriting
-refusing-writer-refuted claim =
-    omega (arith, ap (λ (w : Written). w .refusal) (claim .readsBack (replicate half 0) 1 (replicate whole 0) refl one (lit≤ tt) .0))

@@ -1,14 +1,18 @@
 -- What `formWriting` and `formReading` come to, one law for each answer: the checks that passed on the way, and the one that decides. Assumes
 -- nothing.
-use mathlib.Core.Path.{_≡_}
+use mathlib.Core.Path.{_≡_, refl, ap, _∙_}
+use mathlib.Core.Bool.{Bool, true, false, not, _&&_, and-eq-true-iff}
 use mathlib.Core.List.{List}
-use Prim.Native.Nat.{ℕ, _≤_, _<_}
+use Prim.Native.Nat.{ℕ, suc, _≤_, _<_}
+use native.Mathlib.Omega.{arith}
 use lib.ListN.{length, take, drop, length-append}
-use borrow.Author.Tests.{eq-eqb, ne-eqb, lt-ltb, le-ltb}
-use Rattle.address.specs.Address.{refusedAddress, made}
-use Rattle.octets.specs.Octets.{value, refuseWriting, write}
+use lib.Dec.{eqb}
+use borrow.Author.Tests.{eq-eqb, ne-eqb, lt-ltb, le-ltb, not-false, eqb-true, eqb-false}
+use Rattle.address.specs.Choice.{if_then_else_}
+use Rattle.address.specs.Address.{AddressAnswer, validAddress, refusedAddress, made}
+use Rattle.octets.specs.Octets.{value, same, refuseWriting, write}
 use Rattle.octets.proofs.OctetLaws.{length-octets}
-use Rattle.octets.proofs.SameLaws.{same-refl, same-ne}
+use Rattle.octets.proofs.SameLaws.{same-refl, same-true, same-ne}
 use Rattle.ipv6.specs.Form.{half, whole, form, formWriting, formReading}
 
 pub length-form : (prefix : List ℕ) (a : ℕ) → length prefix ≡ half → length (form prefix a) ≡ whole
@@ -48,3 +52,45 @@ module _ (prefix ipv6 : List ℕ) where
   pub formReading-same : length prefix ≡ half → length ipv6 ≡ whole → take half ipv6 ≡ prefix → formReading prefix ipv6 ≡ made (value (drop half ipv6))
   unfolding formReading made
   formReading-same l m e = rw (eq-eqb (length prefix) half l, eq-eqb (length ipv6) whole m, e, same-refl prefix)
+
+  pub formReading-zero : length prefix ≡ half → length ipv6 ≡ whole → take half ipv6 ≡ prefix → value (drop half ipv6) ≡ 0
+      → formReading prefix ipv6 ≡ refusedAddress 9
+  unfolding made
+  formReading-zero l m e z = formReading-same l m e ∙ rw (eq-eqb (value (drop half ipv6)) 0 z)
+
+  pub formReading-some : length prefix ≡ half → length ipv6 ≡ whole → take half ipv6 ≡ prefix → (value (drop half ipv6) ≡ 0 → ⊥)
+      → formReading prefix ipv6 ≡ validAddress (value (drop half ipv6))
+  unfolding made
+  formReading-some l m e some = formReading-same l m e ∙ rw (ne-eqb (value (drop half ipv6)) 0 some)
+
+-- ---- which case an answer came from
+
+-- a choice between a refusal and what the next check says is an address only by the next check
+else-valid : {a : ℕ} (t : Bool) (n : ℕ) (rest : AddressAnswer) → (if t then refusedAddress (suc n) else rest) ≡ validAddress a
+    → (t ≡ false) × (rest ≡ validAddress a)
+else-valid true n rest e = absurd (omega (arith, ap (λ (x : AddressAnswer). x .refusal) e))
+else-valid false n rest e = (refl, e)
+
+-- what reads as an address
+pub record Read (prefix ipv6 : List ℕ) (a : ℕ) : Type 0 where
+  pub prefixed : length prefix ≡ half
+  pub sized : length ipv6 ≡ whole
+  pub front : take half ipv6 ≡ prefix
+  pub back : value (drop half ipv6) ≡ a
+  pub some : 0 < a
+
+pub formReading-valid : (prefix ipv6 : List ℕ) (a : ℕ) → formReading prefix ipv6 ≡ validAddress a → Read prefix ipv6 a
+unfolding formReading
+formReading-valid prefix ipv6 a e =
+    let lengths = else-valid (not (eqb (length prefix) half && eqb (length ipv6) whole)) 11 _ e in
+    let front = else-valid (not (same (take half ipv6) prefix)) 7 _ (lengths .1) in
+    let back = else-valid (eqb (value (drop half ipv6)) 0) 8 _ (front .1) in
+    let both = and-eq-true-iff (eqb (length prefix) half) (eqb (length ipv6) whole) .0 (not-false _ (lengths .0)) in
+    let is : value (drop half ipv6) ≡ a = ap (λ (x : AddressAnswer). x .address) (back .1) in
+    record {
+      prefixed = eqb-true (length prefix) half (both .0);
+      sized = eqb-true (length ipv6) whole (both .1);
+      front = same-true (take half ipv6) prefix (not-false _ (front .0));
+      back = is;
+      some = omega (arith, eqb-false (value (drop half ipv6)) 0 (back .0));
+    }

@@ -1,3 +1,7 @@
 -- The laws of numbers as octets.
 pub mod OctetLaws
 pub mod SameLaws
+pub mod Correspondence
+pub mod LentLaws
+pub mod Decided
+pub mod Promises

@@ -1,2 +1,4 @@
--- What the octets crate promises, in definitions alone.
+-- What the octets crate promises, in definitions and statements alone.
 pub mod Octets
+pub mod OneToOne
+pub mod Lent

@@ -1,0 +1,212 @@
+-- Each refusal of the header stands where the document puts it: at every condition of the order the definition, by the checks that have
+-- passed on the way, gives that condition's number. Assumes nothing.
+use mathlib.Core.Path.{_≡_, refl, sym, ap, ap₂, subst, _∙_}
+use mathlib.Core.Bool.{Bool, true, false}
+use mathlib.Core.Logic.{_⊎_, inl, inr, _↔_, Dec·and, Dec·not}
+use mathlib.Core.List.{List, [], _∷_, _++_}
+use Prim.Native.Nat.{ℕ, zero, suc, _+_, _-_, _/_, _%_, _≤_, _<_}
+use native.Mathlib.Decide.{ℕ-discrete, decLe, decLt, map-dec}
+use native.Mathlib.Omega.{arith}
+use borrow.Author.Tests.{eq-eqb, ne-eqb, lt-ltb, le-ltb}
+use lib.Dec.{eqb, ltb}
+use lib.ListN.{length, take, drop, getD, replicate, take-append-drop, length-drop}
+use lib.Seq.{take-take, take-all, length-take-le}
+use Rattle.address.specs.Choice.{if_then_else_}
+use Rattle.address.specs.Order.{First}
+use Rattle.address.proofs.OrderLaws.{given-exactly}
+use Rattle.octets.specs.Octets.{value, refuseWriting, write}
+use Rattle.octets.proofs.Correspondence.{value-zero, value-zeros}
+use Rattle.octets.proofs.Decided.{decided, one-of, holds}
+use Rattle.octets.proofs.LentLaws.{refusal-refuseWriting, refusal-write, Outcome, outcome-leaves, outcome-writes}
+use Rattle.header.specs.Header.{unit, IsSize, sizeAllowed, size, header, place, writing, HeaderAnswer, reading, refusedHeader, found, fixedOctets, pageOctet, criticalPattern, routingType, inOrder, startFault, isPageOctet, hasCriticalPattern, isRoutingType, sizeTold, addressOctets, zeroFault, addressFault}
+use Rattle.header.specs.Refusals.{writingOrder, HeaderWriteRefusals, octetAt, OtherTopBits, sizeSaid, FirstZeros, sizedOrder, readingOrder, Accepted, HeaderReadRefusals}
+use Rattle.header.proofs.Size.{sizeAllowed-true, size-sizeAllowed, sizeAllowed-ge}
+use Rattle.header.proofs.Start.{inOrder-absent, inOrder-wrong, inOrder-right, startFault-page, startFault-critical, startFault-zero}
+use Rattle.header.proofs.Parts.{length-addressOctets, addressFault-zero}
+use Rattle.header.proofs.Cases.{reading-start, reading-address, reading-found, reading-cases, reading-inverse}
+use Rattle.header.proofs.Writing.{length-header, writing-zero, writing-short, writing-done}
+
+-- ---- writing
+
+pub writing-outcome : (a : ℕ) (buffer : List ℕ) → Outcome (header a) buffer (writing a buffer)
+unfolding writing
+writing-outcome a buffer = go (eqb a 0) (ltb (length buffer) (place a))
+  where
+    go : (zero short : Bool)
+        → Outcome (header a) buffer (if zero then refuseWriting 9 buffer else if short then refuseWriting 10 buffer else write (header a) buffer)
+    go true short = inl (8, refl)
+    go false true = inl (9, refl)
+    go false false = inr refl
+
+first-writing : (a : ℕ) (buffer : List ℕ) → First (writingOrder a buffer) (writing a buffer .answer .refusal)
+first-writing a buffer =
+    decided (ℕ-discrete a 0) (λ e. refusal-refuseWriting 9 buffer (writing-zero a buffer e)) λ some.
+    decided (decLt (length buffer) (length (header a)))
+    (λ h. refusal-refuseWriting 10 buffer (writing-short a buffer some (omega (arith, length-header a)))) λ h.
+    refusal-write (header a) buffer (writing-done a buffer some (omega (arith, length-header a)))
+
+pub header-write-refusals : HeaderWriteRefusals
+header-write-refusals = record {
+  given = λ a buffer. given-exactly (writingOrder a buffer) (first-writing a buffer);
+  beside = λ a buffer. outcome-leaves (header a) buffer (writing a buffer) (writing-outcome a buffer);
+  without = λ a buffer. outcome-writes (header a) buffer (writing a buffer) (writing-outcome a buffer);
+}
+
+-- ---- reading
+
+-- the first octets that an address of s octets has
+pub zeros-first : (s : ℕ) (p : List ℕ) → unit ≤ s → fixedOctets + s ≤ length p → (value (take unit (addressOctets s p)) ≡ 0) ↔ FirstZeros p
+unfolding addressOctets
+zeros-first s p h room =
+    let rest = drop fixedOctets p in
+    let first : take unit (take s rest) ≡ take unit rest = take-take unit s rest h in
+    let many : length (take unit rest) ≡ unit = length-take-le unit rest (omega (arith, length-drop fixedOctets p)) in (
+      λ e. value-zero (take unit rest) (ap value (sym first) ∙ e) ∙ ap (λ (k : ℕ). replicate k 0) many,
+      λ e. ap value (first ∙ e) ∙ value-zeros unit,
+    )
+
+module _ (s : ℕ) (p : List ℕ) where
+  addressFault-size : sizeAllowed s ≡ false → addressFault s p ≡ 6
+  unfolding addressFault
+  addressFault-size e = rw e
+
+  addressFault-short : sizeAllowed s ≡ true → length p < fixedOctets + s → addressFault s p ≡ 4
+  unfolding addressFault
+  addressFault-short e h = rw (e, lt-ltb (length p) (fixedOctets + s) h)
+
+  addressFault-long : sizeAllowed s ≡ true → fixedOctets + s ≤ length p → addressFault s p ≡ zeroFault s (addressOctets s p)
+  unfolding addressFault
+  addressFault-long e h = rw (e, le-ltb (length p) (fixedOctets + s) h)
+
+module _ (s : ℕ) (os : List ℕ) where
+  zeroFault-unit : s ≡ unit → value os ≡ 0 → zeroFault s os ≡ 9
+  unfolding zeroFault
+  zeroFault-unit e z = rw (eq-eqb s unit e, eq-eqb (value os) 0 z)
+
+  zeroFault-more : (s ≡ unit → ⊥) → value (take unit os) ≡ 0 → zeroFault s os ≡ 6
+  unfolding zeroFault
+  zeroFault-more n z = rw (ne-eqb s unit n, eq-eqb (value (take unit os)) 0 z)
+
+  zeroFault-right : (s ≡ unit → value os ≡ 0 → ⊥) → ((s ≡ unit → ⊥) → value (take unit os) ≡ 0 → ⊥) → zeroFault s os ≡ 0
+  unfolding zeroFault
+  zeroFault-right one more = go (ℕ-discrete s unit)
+    where
+      go : Dec (s ≡ unit) → zeroFault s os ≡ 0
+      go (yes e) = rw (eq-eqb s unit e, ne-eqb (value os) 0 (one e))
+      go (no n) = rw (ne-eqb s unit n, ne-eqb (value (take unit os)) 0 (more n))
+
+other-wrong : (o : ℕ) → OtherTopBits o → o / 32 ≡ criticalPattern → ⊥
+other-wrong o (inl h) e = omega arith
+other-wrong o (inr h) e = omega arith
+
+-- a second octet with the right top bits, and the size that its others say
+top-right : (p : List ℕ) → (OtherTopBits (octetAt 1 p) → ⊥) → (octetAt 1 p / 32 ≡ criticalPattern) × (sizeTold p ≡ sizeSaid p)
+unfolding sizeTold
+top-right p n =
+    let below : octetAt 1 p < 0b10000000 → ⊥ = λ h. n (inl h) in
+    let above : 0b10100000 ≤ octetAt 1 p → ⊥ = λ h. n (inr h) in
+    (omega arith, omega arith)
+
+isSize : (s : ℕ) → 0 < s → Dec (IsSize s)
+isSize s some = go (sizeAllowed s) refl
+  where
+    go : (t : Bool) → sizeAllowed s ≡ t → Dec (IsSize s)
+    go true e = yes (sizeAllowed-true e some)
+    go false e = no (λ h. let z : true ≡ false = sym (size-sizeAllowed h) ∙ e in let y : _≡_ {A = ℕ} 0 1 = cc in omega arith)
+
+sizeAllowed-false : {s : ℕ} → 0 < s → (IsSize s → ⊥) → sizeAllowed s ≡ false
+sizeAllowed-false {s} some other = go (sizeAllowed s) refl
+  where
+    go : (t : Bool) → sizeAllowed s ≡ t → t ≡ false
+    go true e = absurd (other (sizeAllowed-true e some))
+    go false e = refl
+
+first-sized : (s : ℕ) (p : List ℕ) → 0 < s → First (sizedOrder s p) (addressFault s p)
+first-sized s p some =
+    decided (Dec·not (isSize s some)) (λ other. addressFault-size s p (sizeAllowed-false some other)) λ size.
+    let allowed = size-sizeAllowed (holds (isSize s some) size) in
+    let h : unit ≤ s = sizeAllowed-ge allowed some in
+    decided (decLt (length p) (fixedOctets + s)) (λ short. addressFault-short s p allowed short) λ long.
+    let room : fixedOctets + s ≤ length p = omega arith in
+    let os = addressOctets s p in
+    let fault = addressFault-long s p allowed room in
+    let first = zeros-first s p h room in
+    let whole : s ≡ unit → value os ≡ value (take unit os) =
+    λ e. ap value (sym (take-all unit os (omega (arith, length-addressOctets s p room)))) in
+    let zeros : Dec (FirstZeros p) = map-dec (first .0) (first .1) (ℕ-discrete (value (take unit os)) 0) in
+    decided (Dec·and (ℕ-discrete s unit) zeros) (λ c. fault ∙ zeroFault-unit s os (c .0) (whole (c .0) ∙ first .1 (c .1))) λ one.
+    decided (Dec·and (decLt unit s) zeros) (λ c. fault ∙ zeroFault-more s os (λ e. omega (arith, c .0)) (first .1 (c .1))) λ more.
+    fault
+    ∙ zeroFault-right s os
+    (λ e z. one (e, first .0 (sym (whole e) ∙ z)))
+    (λ ne z. more (omega arith, first .0 z))
+
+module _ (p : List ℕ) where
+  by-start : {n : ℕ} → startFault p ≡ suc n → reading p .refusal ≡ suc n
+  by-start e = sym (ap (λ (x : HeaderAnswer). x .refusal) (reading-start p (sym e) (λ z. omega arith)))
+
+  by-address : startFault p ≡ 0 → reading p .refusal ≡ addressFault (sizeTold p) p
+  by-address s = go (addressFault (sizeTold p) p) refl
+    where
+      go : (n : ℕ) → addressFault (sizeTold p) p ≡ n → reading p .refusal ≡ n
+      go zero e = ap (λ (x : HeaderAnswer). x .refusal) (reading-found p s e)
+      go (suc n) e = sym (ap (λ (x : HeaderAnswer). x .refusal) (reading-address p s (sym e) (λ z. omega arith)))
+
+pub first-reading : (p : List ℕ) → First (readingOrder p) (reading p .refusal)
+unfolding startFault inOrder
+first-reading p =
+    let later = hasCriticalPattern ∷ isRoutingType ∷ [] in
+    decided (decLe (length p) 0) (λ h. by-start p (inOrder-absent isPageOctet later p 0 h)) λ there.
+    decided (Dec·not (ℕ-discrete (octetAt 0 p) 0xF1))
+    (λ wrong. by-start p (inOrder-wrong isPageOctet later p 0 (omega arith) (ne-eqb (octetAt 0 p) pageOctet wrong))) λ first.
+    let right = holds (ℕ-discrete (octetAt 0 p) 0xF1) first in
+    let page = startFault-page p (omega arith) right in
+    decided (decLe (length p) 1) (λ h. by-start p (page ∙ inOrder-absent hasCriticalPattern (isRoutingType ∷ []) p 1 h)) λ there.
+    decided (one-of (decLt (octetAt 1 p) 0b10000000) (decLe 0b10100000 (octetAt 1 p)))
+    (λ other.
+    let wrong = ne-eqb (octetAt 1 p / 32) criticalPattern (other-wrong (octetAt 1 p) other) in
+    by-start p (page ∙ inOrder-wrong hasCriticalPattern (isRoutingType ∷ []) p 1 (omega arith) wrong)) λ second.
+    let critical = startFault-critical p (omega arith) right (top-right p second .0) in
+    decided (decLe (length p) 2) (λ h. by-start p (critical ∙ inOrder-absent isRoutingType [] p 2 h)) λ there.
+    decided (Dec·not (ℕ-discrete (octetAt 2 p) 15))
+    (λ wrong. by-start p (critical ∙ inOrder-wrong isRoutingType [] p 2 (omega arith) (ne-eqb (octetAt 2 p) routingType wrong))) λ third.
+    let type = eq-eqb (octetAt 2 p) routingType (holds (ℕ-discrete (octetAt 2 p) 15) third) in
+    let begun = critical ∙ inOrder-right isRoutingType [] p 2 (omega arith) type in
+    let fault = by-address p begun ∙ ap (λ (k : ℕ). addressFault k p) (top-right p second .1) in
+    subst (λ (n : ℕ). First (sizedOrder (sizeSaid p) p) n) (sym fault) (first-sized (sizeSaid p) p (omega arith))
+
+-- without a refusal the checks found no fault
+accepted : (p : List ℕ) → reading p .refusal ≡ 0 → Accepted p (reading p .address) (reading p .place)
+unfolding sizeTold addressOctets
+accepted p e =
+    let r = reading p in
+    let answer : r ≡ found (r .address) (r .place) = ap (λ (n : ℕ). record { refusal = n; address = r .address; place = r .place }) e in
+    let (begun, whole, number, end) = reading-inverse p (r .address) (r .place) answer in
+    let (o, rest, q, top) = startFault-zero p begun in
+    let s = sizeTold p in
+    let told : s ≡ o % 32 + 1 = ap (λ (l : List ℕ). getD l 1 0 % 32 + 1) q in
+    let right = addressFault-zero s p whole in
+    let os = addressOctets s p in
+    let many : length os ≡ s = length-addressOctets s p (right .1) in
+    let second : o ≡ 0b10000000 + (length os - 1) = omega arith in
+    let behind : rest ≡ os ++ drop s (drop fixedOctets p) = sym (take-append-drop s (drop fixedOctets p) ∙ ap (drop fixedOctets) q) in
+    record {
+      os = os;
+      payload = drop s (drop fixedOctets p);
+      laid = q ∙ ap₂ (λ (x : ℕ) (l : List ℕ). 0xF1 ∷ x ∷ 15 ∷ l) second behind;
+      sized = rw many (sizeAllowed-true (right .0) (omega arith));
+      number = sym number;
+      behind = sym end ∙ ap (λ (k : ℕ). fixedOctets + k) (sym many);
+    }
+
+pub header-read-refusals : HeaderReadRefusals
+header-read-refusals = record {
+  given = λ p. given-exactly (readingOrder p) (first-reading p);
+  beside = λ p. beside p (reading-cases p);
+  without = accepted;
+}
+  where
+    beside : (p : List ℕ) → ((n : ℕ) × (reading p ≡ refusedHeader (suc n))) ⊎ ((startFault p ≡ 0) × (addressFault (sizeTold p) p ≡ 0))
+        → (reading p .refusal ≡ 0 → ⊥) → (reading p .address ≡ 0) × (reading p .place ≡ 0)
+    beside p (inl (n, e)) h = (ap (λ (x : HeaderAnswer). x .address) e, ap (λ (x : HeaderAnswer). x .place) e)
+    beside p (inr (s, f)) h = absurd (h (ap (λ (x : HeaderAnswer). x .refusal) (reading-found p s f)))

@@ -1,0 +1,88 @@
+-- Demand 1 for the header: each refusal is "given exactly when that document says", in the document's order. The conditions are the
+-- document's words about addresses, buffers and octets, apart from the tests that `writing` and `reading` run.
+use mathlib.Core.Path.{_≡_}
+use mathlib.Core.Logic.{_⊎_}
+use mathlib.Core.List.{List, _∷_, _++_}
+use Prim.Native.Nat.{ℕ, _+_, _-_, _≤_, _<_}
+use lib.ListN.{length, take, drop, getD, replicate}
+use Rattle.address.specs.Order.{Order, done, _when_otherwise_, GivenExactly}
+use Rattle.octets.specs.Octets.{value}
+use Rattle.octets.specs.Lent.{RefusalLeaves, SuccessWrites}
+use Rattle.header.specs.Header.{unit, IsSize, header, writing, reading}
+
+-- ---- writing
+
+-- "For writing a header 9, 10."
+abbrev pub writingOrder : ℕ → List ℕ → Order
+writingOrder a buffer =
+    -- "an address is zero"
+    9 when a ≡ 0
+    -- "lent output too short"
+    otherwise 10 when length buffer < length (header a)
+    otherwise done
+
+pub record HeaderWriteRefusals : Type 0 where
+  pub given : (a : ℕ) (buffer : List ℕ) → GivenExactly (writingOrder a buffer) (writing a buffer .answer .refusal)
+  pub beside : (a : ℕ) (buffer : List ℕ) → RefusalLeaves buffer (writing a buffer)
+  pub without : (a : ℕ) (buffer : List ℕ) → SuccessWrites (header a) buffer (writing a buffer)
+
+-- ---- reading
+
+-- an octet of the packet, by its place from 0
+abbrev pub octetAt : ℕ → List ℕ → ℕ
+octetAt i p = getD p i 0
+
+abbrev pub Absent : ℕ → List ℕ → Type 0
+Absent i p = length p ≤ i
+
+-- "its top three bits" are not those of "100sssss"
+abbrev pub OtherTopBits : ℕ → Type 0
+OtherTopBits o = (o < 0b10000000) ⊎ (0b10100000 ≤ o)
+
+-- "sssss is the number of address octets less one", of a second octet 100sssss
+abbrev pub sizeSaid : List ℕ → ℕ
+sizeSaid p = octetAt 1 p - 0b10000000 + 1
+
+-- "a first pair of zeros", of the address's octets
+abbrev pub FirstZeros : List ℕ → Type 0
+FirstZeros p = take unit (drop 3 p) ≡ replicate unit 0
+
+-- behind the first three octets, where s address octets are said
+abbrev pub sizedOrder : ℕ → List ℕ → Order
+sizedOrder s p =
+    -- "Then a size other than 2, 4, 6 or 8 octets is 6."
+    6 when (IsSize s → ⊥)
+    -- "Then a missing address octet is 4."
+    otherwise 4 when length p < 3 + s
+    -- "Then, with 2 octets, address zero is 9;"
+    otherwise 9 when ((s ≡ unit) × FirstZeros p)
+    -- "with more, a first pair of zeros is 6."
+    otherwise 6 when ((unit < s) × FirstZeros p)
+    otherwise done
+
+abbrev pub readingOrder : List ℕ → Order
+readingOrder p =
+    -- "the first three octets are checked in order; one that is absent is 4, one that is wrong is 5 (of the second only its top three bits)."
+    4 when Absent 0 p
+    otherwise 5 when (octetAt 0 p ≡ 0xF1 → ⊥)
+    otherwise 4 when Absent 1 p
+    otherwise 5 when OtherTopBits (octetAt 1 p)
+    otherwise 4 when Absent 2 p
+    otherwise 5 when (octetAt 2 p ≡ 15 → ⊥)
+    otherwise sizedOrder (sizeSaid p) p
+
+-- "Packet: octet 0xF1 ..; octet 100sssss, where sssss is the number of address octets less one ..; octet 15 as the type ..; the address,
+-- most significant octet first; the payload, which may be empty." "The answer is the address and the place where the payload begins."
+pub record Accepted (p : List ℕ) (address place : ℕ) : Type 0 where
+  pub os : List ℕ
+  pub payload : List ℕ
+  pub laid : p ≡ 0xF1 ∷ (0b10000000 + (length os - 1)) ∷ 15 ∷ (os ++ payload)
+  pub sized : IsSize (length os)
+  pub number : address ≡ value os
+  pub behind : place ≡ 3 + length os
+
+pub record HeaderReadRefusals : Type 0 where
+  pub given : (p : List ℕ) → GivenExactly (readingOrder p) (reading p .refusal)
+  -- "With any refusal the address, place, .. and every other number returned beside its own are 0"
+  pub beside : (p : List ℕ) → (reading p .refusal ≡ 0 → ⊥) → (reading p .address ≡ 0) × (reading p .place ≡ 0)
+  pub without : (p : List ℕ) → reading p .refusal ≡ 0 → Accepted p (reading p .address) (reading p .place)

@@ -1,0 +1,16 @@
+-- A wrong reader, which demand 2 must exclude.
+use mathlib.Core.Bool.{_&&_}
+use Prim.Native.Nat.{_+_}
+use lib.Dec.{eqb, ltb, leb}
+use lib.ListN.{length}
+use Rattle.address.specs.Choice.{if_then_else_}
+use Rattle.octets.specs.Octets.{value}
+use Rattle.header.specs.Header.{fixedOctets, reading, found, startFault, sizeTold, addressOctets}
+use Rattle.header.specs.RoundTrip.{Reader}
+
+-- it takes four octets also where the first pair is zeros and two would do; right otherwise
+unfoldable pub surplusReader : Reader
+surplusReader p =
+    if eqb (startFault p) 0 && eqb (sizeTold p) 4 && leb (fixedOctets + 4) (length p) && ltb 0 (value (addressOctets 4 p))
+    then found (value (addressOctets 4 p)) (fixedOctets + 4)
+    else reading p
