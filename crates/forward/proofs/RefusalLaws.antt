@@ -86,7 +86,7 @@ pos : (d : ℕ) → (d ≡ 0 → ⊥) → 0 < d
 pos zero h = absurd (h refl)
 pos (suc d) h = omega arith
 
-first-hop : (n : Node) (d : ℕ) → addressIn n < 2 ^ longest → d < 2 ^ longest → First (hopOrder n d) (nextHop n d .refusal)
+pub first-hop : (n : Node) (d : ℕ) → addressIn n < 2 ^ longest → d < 2 ^ longest → First (hopOrder n d) (nextHop n d .refusal)
 first-hop n d f h = go (isGood n) refl (eqb d 0) refl
   where
     go : (t : Bool) → isGood n ≡ t → (z : Bool) → eqb d 0 ≡ z → First (hopOrder n d) (nextHop n d .refusal)

@@ -1,3 +1,4 @@
 -- The laws of the packet crate.
 pub mod PacketHops
+pub mod RefusalLaws
 pub mod Promises

@@ -1,4 +1,4 @@
--- What the next hop from a packet promises, by its contract as the code states it, is `packetHop`.
+-- What the next hop from a packet promises, by its contract as the code states it, is `packetHop`. It asks nothing of its caller.
 use mathlib.Core.Path.{_≡_}
 use mathlib.Core.List.{List}
 use Prim.Native.Nat.{ℕ}
@@ -14,3 +14,6 @@ pub next-hop-promise : (κs : Lfts 1) (n : Node) (packet : RefT (List ℕ)) (r :
     → next-hop-reads.Learnt κs (n, (packet, tt)) r (n, (packet, tt))
     → hopAnswer r ≡ packetHop n (now packet)
 next-hop-promise κs n packet r h = h
+
+pub next-hop-asks-nothing : (κs : Lfts 1) (n : Node) (packet : RefT (List ℕ)) → next-hop-reads.Asked κs (n, (packet, tt))
+next-hop-asks-nothing κs n packet = tt

@@ -1,2 +1,3 @@
--- What the packet crate promises, in definitions alone.
+-- What the packet crate promises, in definitions and statements alone.
 pub mod Packet
+pub mod Refusals
