@@ -49,10 +49,11 @@ fn a_refused_child_leaves_the_record() {
 
 #[test]
 fn a_stored_record_goes_on_where_it_was() {
-    let mut root = Node::fresh(Address::ROOT);
-    root.router_child().unwrap();
-    let (at, routers, hosts) = (root.address(), root.routers(), root.hosts());
-    drop(root);
+    let (at, routers, hosts) = {
+        let mut root = Node::fresh(Address::ROOT);
+        root.router_child().unwrap();
+        (root.address(), root.routers(), root.hosts())
+    };
     let mut restored = Node::restore(at, routers, hosts);
     assert_eq!(restored.router_child(), Ok(address("110")));
     assert_eq!(Node::restore(address("11"), 1, 0).router_child(), Err(Refusal::BadRecord));

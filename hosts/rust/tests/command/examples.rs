@@ -57,7 +57,7 @@ fn in_help() {
 
 #[test]
 fn in_documents() {
-    for (document, least) in [("docs/HALL.md", 15)] {
+    for (document, least) in [("README.md", 1), ("docs/HALL.md", 15)] {
         let text = std::fs::read_to_string(repository().join(document)).unwrap();
         assert!(tried(&text) >= least, "{document} has too few examples");
     }

@@ -63,7 +63,7 @@ fn prefix(word: &str) -> Result<Prefix, Expected> {
 }
 
 impl Prefix {
-    /// "a prefix isn't 8 [octets]"
+    /// "an IPv6 address isn't 16 octets, or a prefix isn't 8"
     fn octets(&self) -> Result<&[u8], Refusal> {
         if self.bits != 64 {
             return Err(Refusal::WrongLength);
