@@ -5,7 +5,7 @@ use crate::{sys, Address, Hop, Refusal};
 /// A node's record: its address with the router children and the host children given so far.
 ///
 /// There is one record of a node, and it is neither `Copy` nor `Clone`: a copy that is asked again gives the same address a second time, to
-/// another shelf. Asking for a child raises the count in the record itself, so the next child differs:
+/// another node. Asking for a child raises the count in the record itself, so the next child differs:
 ///
 /// ```
 /// # use pasa::{Address, Node};
