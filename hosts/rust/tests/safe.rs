@@ -36,6 +36,18 @@ fn refusals_have_the_documents_numbers() {
     assert_eq!(error.to_string(), "refused 7: destination below this node, child not given");
 }
 
+/// The README's table has the documents' words.
+#[test]
+fn refusals_have_the_documents_words() {
+    let readme = include_str!("../../../README.md");
+    for number in 1..=12 {
+        let refusal = Refusal::of(number).unwrap();
+        let row = format!("\n| {number} | {} |\n", refusal.text());
+        assert!(readme.contains(&row), "no such row: {row}");
+        assert_eq!(refusal.to_string(), format!("refused {number}: {}", refusal.text()));
+    }
+}
+
 #[test]
 fn a_refused_child_leaves_the_record() {
     let mut host = Node::fresh(address("11"));

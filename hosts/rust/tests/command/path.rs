@@ -56,3 +56,12 @@ fn a_word_that_is_no_text() {
     let got = crate::answer(&[OsStr::new("path"), OsStr::from_bytes(b"1\xff"), OsStr::new("1")], "");
     assert_eq!(got.status.code(), Some(2));
 }
+
+#[cfg(target_os = "linux")]
+#[test]
+fn output_that_cannot_be_written() {
+    let full = std::fs::File::options().write(true).open("/dev/full").unwrap();
+    let got = crate::hall(&["path", "1", "1"]).stdout(full).output().unwrap();
+    assert_eq!(got.status.code(), Some(2));
+    assert!(crate::text(&got.stderr).starts_with("hall: cannot write: "), "{}", crate::text(&got.stderr));
+}

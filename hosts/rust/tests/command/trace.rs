@@ -170,6 +170,14 @@ fn an_answer_comes_before_the_next_line() {
     assert!(child.wait().unwrap().success());
 }
 
+/// The message shows the front of it alone.
+#[test]
+fn a_long_line_that_cannot_be_read() {
+    let got = answer(&["trace"], &"x".repeat(1_000_000));
+    assert_eq!(got.status.code(), Some(2));
+    assert!(text(&got.stderr).len() < 400, "{} octets of message", got.stderr.len());
+}
+
 #[test]
 fn a_closed_pipe_ends_it_quietly() {
     let (requests, _) = grown(100_000);

@@ -28,8 +28,13 @@ pub enum Line {
     Nothing,
 }
 
+/// So much of a line is shown in a message; no command is longer.
+const SHOWN: usize = 140;
+
 fn shown(text: &[u8]) -> String {
-    String::from_utf8_lossy(text).escape_debug().collect()
+    let front = &text[..text.len().min(SHOWN)];
+    let more = if front.len() < text.len() { ".." } else { "" };
+    format!("{}{more}", String::from_utf8_lossy(front).escape_debug())
 }
 
 /// The address that binary digits give, the first of them 1.
