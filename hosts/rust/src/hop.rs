@@ -14,7 +14,7 @@ pub enum Hop {
 }
 
 impl Hop {
-    /// The hop that an archive's answer says. An action that this crate doesn't know stops the program: a packet is passed nowhere by a guess.
+    /// The hop that an answer says. An action that this crate doesn't know stops the program: a packet is passed nowhere by a guess.
     pub(crate) fn answered(answer: sys::Hop) -> Result<Hop, Refusal> {
         done(answer.refusal, || {
             let node = Address::answered(answer.node);

@@ -1,7 +1,9 @@
 //! The exports of libpasa.a as include/pasa.h declares them, over plain numbers: an address of zero and a record that no node can have may
-//! go in, and come back as refusals. Records are plain numbers here and can be copied: what [`Node`](crate::Node) keeps from happening is here
-//! the caller's to keep. A slice is a pointer and a length; the pointer is valid for so many elements, and what is written to
+//! go in, and come back as refusals. A slice is a pointer and a length; the pointer is valid for so many elements, and what is written to
 //! overlaps nothing else that is handed in.
+//!
+//! Records are plain numbers here and can be copied. That a record is asked once, which [`Node`](crate::Node) sees to, is here the caller's
+//! to see to.
 
 /// A node's record.
 #[repr(C)]
