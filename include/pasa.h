@@ -1,10 +1,12 @@
-/* PASA addresses: children, next hops, packet headers, IPv6 forms and paths.
+/* PASA addresses: parents and depths, children, next hops, packet headers, IPv6 forms and paths.
  *
  * The functions are those of libpasa.a, for x86-64, each proved to answer what the specification says for every input; a refusal is an
  * answer like any other. Nothing is kept between calls and nothing is allocated, so every function may be called from any thread.
  *
  * An address is any number but zero: a string of 1 to 64 bits whose first bit is 1, right-justified. With a refusal every other number
- * answered is 0, a node answered is the one handed in, and nothing lent is changed. Without one, only what is named below is written.
+ * answered is 0, a node answered is the one handed in, and nothing lent is changed. Without one, only what is named below is written. A batch
+ * (pasa_next_hops) has no refusal of its own: the refusal of one destination is written at its index, and an output that is too short is no
+ * refusal 10, it only shortens the batch.
  *
  * What a caller owes is C's own: a pointer is valid for as many elements as its length says, and what a call writes to overlaps nothing else
  * that it is handed. A null pointer with length 0 is fine. */
@@ -53,7 +55,11 @@ enum pasa_action {
     PASA_TO_CHILD = 3
 };
 
-/* A node's record: its address with the router children and the host children given so far. */
+/* A node's record: its address with the router children and the host children given so far.
+ *
+ * A record is made by pasa_fresh alone, also one that was stored: make it afresh and set its counts, and every other field starts right.
+ * There is one record of a node, and the one that a request answers takes its place: an old record, or a copy, that is asked again gives the
+ * same address a second time, to another node. */
 struct pasa_node {
     uint64_t address;
     uint8_t routers;
@@ -99,6 +105,117 @@ struct pasa_listed {
     uint8_t refusal;
 };
 
+/* The layout above is the archive's. Where a compiler lays a struct out otherwise, it says so here. */
+#if defined(__cplusplus) && __cplusplus >= 201103L
+#define PASA_ASSERT(fact) static_assert(fact, #fact);
+#elif defined(__STDC_VERSION__) && __STDC_VERSION__ >= 201112L
+#define PASA_ASSERT(fact) _Static_assert(fact, #fact);
+#else
+#define PASA_ASSERT(fact)
+#endif
+
+PASA_ASSERT(sizeof(struct pasa_node) == 16)
+PASA_ASSERT(offsetof(struct pasa_node, address) == 0)
+PASA_ASSERT(offsetof(struct pasa_node, routers) == 8)
+PASA_ASSERT(offsetof(struct pasa_node, hosts) == 9)
+
+PASA_ASSERT(sizeof(struct pasa_child) == 32)
+PASA_ASSERT(offsetof(struct pasa_child, node) == 0)
+PASA_ASSERT(offsetof(struct pasa_child, child) == 16)
+PASA_ASSERT(offsetof(struct pasa_child, refusal) == 24)
+
+PASA_ASSERT(sizeof(struct pasa_hop) == 16)
+PASA_ASSERT(offsetof(struct pasa_hop, node) == 0)
+PASA_ASSERT(offsetof(struct pasa_hop, refusal) == 8)
+PASA_ASSERT(offsetof(struct pasa_hop, action) == 9)
+
+PASA_ASSERT(sizeof(struct pasa_written) == 16)
+PASA_ASSERT(offsetof(struct pasa_written, count) == 0)
+PASA_ASSERT(offsetof(struct pasa_written, refusal) == 8)
+
+PASA_ASSERT(sizeof(struct pasa_read) == 24)
+PASA_ASSERT(offsetof(struct pasa_read, address) == 0)
+PASA_ASSERT(offsetof(struct pasa_read, place) == 8)
+PASA_ASSERT(offsetof(struct pasa_read, refusal) == 16)
+
+PASA_ASSERT(sizeof(struct pasa_address) == 16)
+PASA_ASSERT(offsetof(struct pasa_address, address) == 0)
+PASA_ASSERT(offsetof(struct pasa_address, refusal) == 8)
+
+PASA_ASSERT(sizeof(struct pasa_listed) == 8)
+PASA_ASSERT(offsetof(struct pasa_listed, hops) == 0)
+PASA_ASSERT(offsetof(struct pasa_listed, refusal) == 4)
+
+#undef PASA_ASSERT
+
+/* The number of the interface, which rises whenever a struct or a parameter changes. The archive has a function whose name carries it, and
+ * every object that includes this header refers to that function: with an archive of another interface it does not link, but ends with an
+ * undefined reference to the name. The reference costs a pointer an object. A compiler other than gcc and clang makes none by itself: call
+ * PASA_CHECK_INTERFACE() there, once in a program. */
+#define PASA_INTERFACE pasa_interface_1
+uint32_t PASA_INTERFACE(void);
+#define PASA_CHECK_INTERFACE() ((void)PASA_INTERFACE())
+
+#ifdef __GNUC__
+/* `used` keeps the reference in the object, `retain` keeps it where the linker drops sections that nothing refers to. */
+#ifndef __has_attribute
+#define PASA_KEPT __attribute__((used))
+#elif __has_attribute(retain)
+#define PASA_KEPT __attribute__((used, retain))
+#else
+#define PASA_KEPT __attribute__((used))
+#endif
+PASA_KEPT static uint32_t (*const pasa_interface_kept)(void) = PASA_INTERFACE;
+#undef PASA_KEPT
+#endif
+
+/* What a refusal says, in the documents' words; a text for every number, "done" for 0. */
+static inline const char *pasa_refusal_text(uint8_t refusal)
+{
+    switch (refusal) {
+    case PASA_DONE:
+        return "done";
+    case PASA_BAD_RECORD:
+        return "the node record is bad";
+    case PASA_HOST_ASKED:
+        return "a host is asked for a child";
+    case PASA_TOO_LONG:
+        return "the child would be longer than 64 bits";
+    case PASA_ENDS_EARLY:
+        return "the packet ends too early";
+    case PASA_WRONG_START:
+        return "one of the first three octets is wrong";
+    case PASA_WRONG_SIZE:
+        return "size not allowed, or more pairs than needed";
+    case PASA_CHILD_NOT_GIVEN:
+        return "destination below this node, child not given";
+    case PASA_OTHER_PREFIX:
+        return "IPv6 prefix differs";
+    case PASA_ZERO_ADDRESS:
+        return "an address is zero";
+    case PASA_NO_ROOM:
+        return "lent output too short";
+    case PASA_BAD_LINE:
+        return "the path program's input isn't the one line it reads";
+    case PASA_WRONG_LENGTH:
+        return "an IPv6 address isn't 16 octets, or a prefix isn't 8";
+    default:
+        return "a refusal that this header doesn't know";
+    }
+}
+
+/* The address less its last step; 0 for the root and for zero. */
+uint64_t pasa_parent(uint64_t address);
+
+/* The number of steps from the root; 0 for zero. */
+uint32_t pasa_depth(uint64_t address);
+
+/* The length in bits; 0 for zero. */
+uint32_t pasa_bit_length(uint64_t address);
+
+/* 1 for a host's address, 0 for any other; neither the root nor zero is one. */
+uint8_t pasa_is_host(uint64_t address);
+
 /* The record that a node starts with: its address, and both counts 0. It refuses nothing; a record of address zero is bad. */
 struct pasa_node pasa_fresh(uint64_t address);
 
@@ -115,7 +232,8 @@ struct pasa_hop pasa_next_hop(struct pasa_node node, uint64_t destination);
 struct pasa_hop pasa_packet_next_hop(struct pasa_node node, const uint8_t *packet, size_t packet_length);
 
 /* The next hops at this node for many destinations: for each what pasa_next_hop answers, its three numbers at the same index of the three
- * outputs. It does as many as the shortest of the four lengths allows, answers how many, and leaves the rest of the outputs as it was. */
+ * outputs, a refusal like any other answer. It does as many as the shortest of the four lengths allows, answers how many, and leaves the rest
+ * of the outputs as it was. */
 size_t pasa_next_hops(struct pasa_node node, const uint64_t *destinations, size_t destinations_length, uint64_t *nodes, size_t nodes_length,
                       uint8_t *actions, size_t actions_length, uint8_t *refusals, size_t refusals_length);
 

@@ -35,6 +35,15 @@ static uint64_t bits(const char *digits)
     return number;
 }
 
+static void same_text(const char *what, const char *got, const char *expected)
+{
+    compared++;
+    if (strcmp(got, expected) != 0) {
+        differences++;
+        printf("%s: \"%s\", but the specification says \"%s\"\n", what, got, expected);
+    }
+}
+
 static struct pasa_node record(const char *digits, uint8_t routers, uint8_t hosts)
 {
     struct pasa_node node = pasa_fresh(bits(digits));
@@ -67,6 +76,66 @@ static void same_hop(const char *what, struct pasa_hop got, const char *node, ui
     same(part, got.action, action);
     snprintf(part, sizeof part, "%s: the refusal", what);
     same(part, got.refusal, refusal);
+}
+
+static void address_as(const char *digits, const char *parent, uint32_t depth, uint8_t is_host)
+{
+    char part[160];
+    snprintf(part, sizeof part, "%s: the parent", digits);
+    same(part, pasa_parent(bits(digits)), bits(parent));
+    snprintf(part, sizeof part, "%s: the depth", digits);
+    same(part, pasa_depth(bits(digits)), depth);
+    snprintf(part, sizeof part, "%s: the length in bits", digits);
+    same(part, pasa_bit_length(bits(digits)), strlen(digits));
+    snprintf(part, sizeof part, "%s: whether it is a host", digits);
+    same(part, pasa_is_host(bits(digits)), is_host);
+}
+
+static void addresses(void)
+{
+    address_as("1", "0", 0, 0);
+    address_as("10", "1", 1, 0);
+    address_as("11", "1", 1, 1);
+    address_as("110", "1", 1, 0);
+    address_as("111110", "1", 1, 0);
+    address_as("10010", "100", 3, 0); /* 003, 7.1: "Len(0x00010010) = 5" */
+    address_as("10011", "100", 3, 1);
+    address_as("101011", "1010", 3, 1);
+    same("zero: the parent", pasa_parent(0), 0);
+    same("zero: the depth", pasa_depth(0), 0);
+    same("zero: the length in bits", pasa_bit_length(0), 0);
+    same("zero: whether it is a host", pasa_is_host(0), 0);
+    same("64 ones: the parent", pasa_parent(UINT64_MAX), PASA_ROOT);
+    same("64 ones: the depth", pasa_depth(UINT64_MAX), 1);
+    same("64 ones: the length in bits", pasa_bit_length(UINT64_MAX), PASA_LONGEST);
+    same("64 ones: whether it is a host", pasa_is_host(UINT64_MAX), 1);
+    same("the deepest: the depth", pasa_depth(UINT64_C(1) << 63), 63);
+    same("the deepest: the parent", pasa_parent(UINT64_C(1) << 63), UINT64_C(1) << 62);
+}
+
+static void interface(void)
+{
+    PASA_CHECK_INTERFACE();
+    same("the number of the interface", PASA_INTERFACE(), 1);
+}
+
+static void refusal_texts(void)
+{
+    same_text("refusal 0", pasa_refusal_text(PASA_DONE), "done");
+    same_text("refusal 1", pasa_refusal_text(1), "the node record is bad");
+    same_text("refusal 2", pasa_refusal_text(2), "a host is asked for a child");
+    same_text("refusal 3", pasa_refusal_text(3), "the child would be longer than 64 bits");
+    same_text("refusal 4", pasa_refusal_text(4), "the packet ends too early");
+    same_text("refusal 5", pasa_refusal_text(5), "one of the first three octets is wrong");
+    same_text("refusal 6", pasa_refusal_text(6), "size not allowed, or more pairs than needed");
+    same_text("refusal 7", pasa_refusal_text(7), "destination below this node, child not given");
+    same_text("refusal 8", pasa_refusal_text(8), "IPv6 prefix differs");
+    same_text("refusal 9", pasa_refusal_text(9), "an address is zero");
+    same_text("refusal 10", pasa_refusal_text(10), "lent output too short");
+    same_text("refusal 11", pasa_refusal_text(11), "the path program's input isn't the one line it reads");
+    same_text("refusal 12", pasa_refusal_text(12), "an IPv6 address isn't 16 octets, or a prefix isn't 8");
+    same_text("refusal 13", pasa_refusal_text(13), "a refusal that this header doesn't know");
+    same_text("refusal 255", pasa_refusal_text(255), "a refusal that this header doesn't know");
 }
 
 static void children(void)
@@ -234,6 +303,9 @@ static void paths(void)
 
 int main(void)
 {
+    interface();
+    refusal_texts();
+    addresses();
     children();
     next_hops();
     headers();

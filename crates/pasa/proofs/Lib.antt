@@ -1,2 +1,3 @@
 -- The laws of the pasa crate.
 pub mod Promises
+pub mod AddressPromises

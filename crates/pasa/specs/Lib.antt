@@ -2,3 +2,4 @@
 pub mod Children
 pub mod Bytes
 pub mod Paths
+pub mod Addresses

@@ -1,6 +1,9 @@
 //! The exports of libpasa.a as include/pasa.h declares them, over plain numbers: an address of zero and a record that no node can have may
 //! go in, and come back as refusals. A slice is a pointer and a length; the pointer is valid for so many elements, and what is written to
 //! overlaps nothing else that is handed in.
+//!
+//! Records are plain numbers here and can be copied. That a record is asked once, which [`Node`](crate::Node) sees to, is here the caller's
+//! to see to.
 
 /// A node's record.
 #[repr(C)]
@@ -68,7 +71,16 @@ pub const DELIVERED: u8 = 1;
 pub const TO_PARENT: u8 = 2;
 pub const TO_CHILD: u8 = 3;
 
+/// An archive whose structs or parameters are others exports a function of another name, and so does not link with this crate.
+#[used]
+static INTERFACE: unsafe extern "C" fn() -> u32 = pasa_interface_1;
+
 extern "C" {
+    pub fn pasa_interface_1() -> u32;
+    pub fn pasa_parent(address: u64) -> u64;
+    pub fn pasa_depth(address: u64) -> u32;
+    pub fn pasa_bit_length(address: u64) -> u32;
+    pub fn pasa_is_host(address: u64) -> u8;
     pub fn pasa_fresh(address: u64) -> Node;
     pub fn pasa_child_router(node: Node) -> Child;
     pub fn pasa_child_host(node: Node) -> Child;

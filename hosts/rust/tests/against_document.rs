@@ -155,6 +155,19 @@ fn fresh() {
     }
 }
 
+#[test]
+fn addresses_by_themselves() {
+    let random = &mut Random(11);
+    for i in 0..MILLION as u64 + 4096 {
+        let address = if i < 4096 { i } else { random.number() };
+        let bits = document::bits(address);
+        let got =
+            unsafe { (sys::pasa_parent(address), sys::pasa_depth(address), sys::pasa_bit_length(address), sys::pasa_is_host(address)) };
+        let expected = (document::parent(&bits), document::depth(&bits) as u32, bits.len() as u32, u8::from(document::is_host(&bits)));
+        assert_eq!(got, expected, "address {address:#b}");
+    }
+}
+
 fn child(node: Node, seen: &mut Seen) {
     let routers = unsafe { sys::pasa_child_router(node) };
     assert_eq!(routers, document::child(node, Kind::Router), "a router of {node:?}, {:#b}", node.address);

@@ -13,14 +13,39 @@ fn zero_is_no_address() {
 }
 
 #[test]
+fn what_an_address_answers() {
+    let router = address("111110");
+    assert_eq!((router.parent(), router.depth(), router.bit_length(), router.is_host()), (Some(Address::ROOT), 1, 6, false));
+    let host = address("101011");
+    assert_eq!((host.parent(), host.depth(), host.bit_length(), host.is_host()), (Some(address("1010")), 3, 6, true));
+    let root = Address::ROOT;
+    assert_eq!((root.parent(), root.depth(), root.bit_length(), root.is_host()), (None, 0, 1, false));
+    assert_eq!(pasa::interface(), 1);
+}
+
+#[test]
 fn refusals_have_the_documents_numbers() {
     assert_eq!(Refusal::of(0), None);
-    assert_eq!(Refusal::of(13), None);
     for number in 1..=12 {
-        assert_eq!(Refusal::of(number).unwrap().number(), number);
+        let refusal = Refusal::of(number).unwrap();
+        assert_eq!(refusal.number(), number);
+        assert_ne!(refusal, Refusal::Unknown(number));
     }
+    assert_eq!(Refusal::of(13), Some(Refusal::Unknown(13)));
     let error: Box<dyn Error> = Box::new(Refusal::ChildNotGiven);
     assert_eq!(error.to_string(), "refused 7: destination below this node, child not given");
+}
+
+/// The README's table has the documents' words.
+#[test]
+fn refusals_have_the_documents_words() {
+    let readme = include_str!("../../../README.md");
+    for number in 1..=12 {
+        let refusal = Refusal::of(number).unwrap();
+        let row = format!("\n| {number} | {} |\n", refusal.text());
+        assert!(readme.contains(&row), "no such row: {row}");
+        assert_eq!(refusal.to_string(), format!("refused {number}: {}", refusal.text()));
+    }
 }
 
 #[test]
@@ -28,15 +53,27 @@ fn a_refused_child_leaves_the_record() {
     let mut host = Node::fresh(address("11"));
     assert_eq!(host.router_child(), Err(Refusal::HostAsked));
     assert_eq!(host, Node::fresh(address("11")));
-    let mut root = Node { hosts: 62, ..Node::fresh(Address::ROOT) };
+    let mut root = Node::restore(Address::ROOT, 0, 62);
     assert_eq!(root.host_child().unwrap().number(), u64::MAX);
     assert_eq!(root.host_child(), Err(Refusal::TooLong));
-    assert_eq!(root.hosts, 63);
+    assert_eq!(root.hosts(), 63);
+}
+
+#[test]
+fn a_stored_record_goes_on_where_it_was() {
+    let (at, routers, hosts) = {
+        let mut root = Node::fresh(Address::ROOT);
+        root.router_child().unwrap();
+        (root.address(), root.routers(), root.hosts())
+    };
+    let mut restored = Node::restore(at, routers, hosts);
+    assert_eq!(restored.router_child(), Ok(address("110")));
+    assert_eq!(Node::restore(address("11"), 1, 0).router_child(), Err(Refusal::BadRecord));
 }
 
 #[test]
 fn next_hops() {
-    let root = Node { routers: 2, hosts: 2, ..Node::fresh(Address::ROOT) };
+    let root = Node::restore(Address::ROOT, 2, 2);
     assert_eq!(root.next_hop(Address::ROOT), Ok(Hop::Deliver(Address::ROOT)));
     assert_eq!(root.next_hop(address("110")), Ok(Hop::Child(address("110"))));
     assert_eq!(root.next_hop(address("1110")), Err(Refusal::ChildNotGiven));

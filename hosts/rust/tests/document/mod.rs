@@ -58,12 +58,23 @@ pub fn spelled(steps: &[Step]) -> Bits {
 }
 
 /// "A host ends in 1 and is longer than one bit."
-fn is_host(bits: &[bool]) -> bool {
+pub fn is_host(bits: &[bool]) -> bool {
     bits.len() > 1 && bits[bits.len() - 1]
 }
 
-/// "The parent of an address drops its last step." The root has none: 0.
+/// "Depth is the number of steps". Zero, which is no address, has none.
+pub fn depth(bits: &[bool]) -> usize {
+    if bits.is_empty() {
+        return 0;
+    }
+    steps(bits).len()
+}
+
+/// "The parent of an address drops its last step." The root has none, and neither has zero, which is no address: 0.
 pub fn parent(bits: &[bool]) -> u64 {
+    if bits.is_empty() {
+        return 0;
+    }
     let steps = steps(bits);
     match steps.split_last() {
         None => 0,

@@ -1,2 +1,0 @@
--- The laws of the trace program.
-mod Writing

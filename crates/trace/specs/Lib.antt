@@ -1,2 +1,0 @@
--- What the contracts of the trace program cite.
-pub mod Tree

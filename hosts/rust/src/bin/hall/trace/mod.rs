@@ -1,0 +1,98 @@
+//! `hall trace [FILE]`: grows a tree from a list of requests and shows the way of packets through it.
+//!
+//! Every address is `Node::router_child`'s or `Node::host_child`'s answer, every packet is a header that `write_header` wrote, and every hop
+//! is `packet_next_hop`'s answer with the record of the node that the packet has reached.
+mod line;
+mod tree;
+mod way;
+
+use crate::commands::{wrong, Command};
+use crate::{input, Done, Failure};
+use line::{Kind, Line};
+use pasa::Address;
+use std::ffi::{OsStr, OsString};
+use std::io::{self, BufRead, BufReader, Read, Write};
+use tree::Tree;
+
+const USAGE: &str = "usage: hall trace [FILE]";
+
+pub const COMMAND: Command = Command {
+    name: "trace",
+    usage: USAGE,
+    list: "  trace [FILE]              grow a tree from requests, and send packets through it\n",
+    help: "\
+Reads commands from FILE or from standard input, one a line, and answers each. The tree
+begins with the root, 1, alone; addresses are binary digits.
+
+    router A     ask node A for a router
+    host A       ask node A for a host
+    send A D     a packet for D from node A
+    tree         print the tree as it stands
+
+Empty lines and lines that begin with # are passed over. A refused request or packet is
+an answer like any other. A line that is none of these ends the trace: 'bad input at
+line K' on standard error, exit status 2.
+
+    $ printf 'router 1\\nhost 1\\nsend 10 11\\nrouter 11\\n' | hall trace
+    router of 1: 10
+    host of 1: 11
+    send 10 to 11: 10 1 11 delivered, 2 hops
+    router of 11: refused 2
+",
+    run,
+};
+
+fn run(words: &[OsString], out: &mut dyn Write) -> Done {
+    let word = match words {
+        [] => OsStr::new("-"),
+        [word] => word,
+        _ => return Err(wrong(USAGE, "one file, or none for standard input")),
+    };
+    let (source, name) = input::open(word)?;
+    obey_all(BufReader::with_capacity(1 << 16, source), &name, out)
+}
+
+fn obey_all(mut input: BufReader<Box<dyn Read>>, name: &str, out: &mut dyn Write) -> Done {
+    let mut tree = Tree::new();
+    let mut text = Vec::new();
+    let mut number = 0;
+    while next_line(&mut input, &mut text, name, out)? {
+        number += 1;
+        let line = line::read(&text).map_err(|expected| Failure::BadInput { line: number, expected })?;
+        obey(line, &mut tree, out)?;
+    }
+    Ok(())
+}
+
+/// Takes the next line, without its newline, into `text`; false at the end of the input. Before it waits for more input it hands over the
+/// answers so far, so that whoever types the lines sees each answer.
+fn next_line(input: &mut BufReader<Box<dyn Read>>, text: &mut Vec<u8>, name: &str, out: &mut dyn Write) -> Result<bool, Failure> {
+    if input.buffer().is_empty() {
+        out.flush()?;
+    }
+    text.clear();
+    let read = input.read_until(b'\n', text);
+    let size = read.map_err(|error| Failure::Unreadable { name: name.to_string(), error })?;
+    if text.last() == Some(&b'\n') {
+        text.pop();
+    }
+    Ok(size > 0)
+}
+
+fn obey(line: Line, tree: &mut Tree, out: &mut dyn Write) -> io::Result<()> {
+    match line {
+        Line::Request(kind, asked) => request(kind, asked, tree, out),
+        Line::Send(from, to) => way::send(from, to, tree, out),
+        Line::Tree => tree.show(out),
+        Line::Nothing => Ok(()),
+    }
+}
+
+fn request(kind: Kind, asked: Address, tree: &mut Tree, out: &mut dyn Write) -> io::Result<()> {
+    write!(out, "{kind} of {asked}:")?;
+    match tree.request(kind, asked) {
+        None => writeln!(out, " no such node"),
+        Some(Ok(child)) => writeln!(out, " {child}"),
+        Some(Err(refusal)) => writeln!(out, " refused {}", refusal.number()),
+    }
+}

@@ -1,0 +1,71 @@
+//! The tree that a trace grows: the record of each node, by its address.
+use super::line::Kind;
+use pasa::{Address, Node, Refusal};
+use std::collections::BTreeMap;
+use std::io::{self, Write};
+
+/// Where an address stands in the order of bit strings: by the bits that two of them both have, and the shorter first where these are the
+/// same. So every node comes before what is below it, and all of that before anything else.
+#[derive(PartialEq, Eq, PartialOrd, Ord)]
+struct Position {
+    /// the bit string, left-justified
+    bits: u64,
+    length: u32,
+}
+
+impl Position {
+    fn of(address: Address) -> Position {
+        let length = address.bit_length();
+        Position { bits: address.number() << (Address::LONGEST - length), length }
+    }
+}
+
+pub struct Tree {
+    nodes: BTreeMap<Position, Node>,
+}
+
+impl Tree {
+    /// The tree of the root alone.
+    pub fn new() -> Tree {
+        let mut tree = Tree { nodes: BTreeMap::new() };
+        tree.take_in(Address::ROOT);
+        tree
+    }
+
+    fn take_in(&mut self, address: Address) {
+        self.nodes.insert(Position::of(address), Node::fresh(address));
+    }
+
+    pub fn node(&self, address: Address) -> Option<&Node> {
+        self.nodes.get(&Position::of(address))
+    }
+
+    /// Asks a node for a child and takes the child into the tree; nothing where the node is not in it.
+    pub fn request(&mut self, kind: Kind, asked: Address) -> Option<Result<Address, Refusal>> {
+        let node = self.nodes.get_mut(&Position::of(asked))?;
+        let answer = match kind {
+            Kind::Router => node.router_child(),
+            Kind::Host => node.host_child(),
+        };
+        if let Ok(child) = answer {
+            self.take_in(child);
+        }
+        Some(answer)
+    }
+
+    /// Prints a line for each node, each behind its parent.
+    pub fn show(&self, out: &mut dyn Write) -> io::Result<()> {
+        writeln!(out, "tree")?;
+        for node in self.nodes.values() {
+            row(node, out)?;
+        }
+        Ok(())
+    }
+}
+
+/// Two spaces for each step of the depth, the address, and the children of each kind that the node has given.
+fn row(node: &Node, out: &mut dyn Write) -> io::Result<()> {
+    let address = node.address();
+    let indent = 2 * address.depth() as usize;
+    writeln!(out, "{:indent$}{address} routers {} hosts {}", "", node.routers(), node.hosts())
+}

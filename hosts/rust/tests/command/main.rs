@@ -1,0 +1,73 @@
+//! `hall` as a user runs it: each command, good and bad, by its output, its standard error and its exit status.
+mod examples;
+mod header;
+mod help;
+mod ipv6;
+mod next;
+mod path;
+mod trace;
+
+use std::ffi::OsStr;
+use std::io::Write;
+use std::process::{Command, Output, Stdio};
+
+fn hall(words: &[impl AsRef<OsStr>]) -> Command {
+    let mut command = Command::new(env!("CARGO_BIN_EXE_hall"));
+    command.args(words).stdin(Stdio::piped()).stdout(Stdio::piped()).stderr(Stdio::piped());
+    command
+}
+
+/// What `hall` answers to these words, with this text on standard input.
+fn answer(words: &[impl AsRef<OsStr>], input: &str) -> Output {
+    let mut child = hall(words).spawn().unwrap();
+    let mut stdin = child.stdin.take().unwrap();
+    let input = input.to_string();
+    // a program that ends early reads no more: that is for its answer to show
+    let writer = std::thread::spawn(move || drop(stdin.write_all(input.as_bytes())));
+    let output = child.wait_with_output().unwrap();
+    writer.join().unwrap();
+    output
+}
+
+fn text(octets: &[u8]) -> &str {
+    std::str::from_utf8(octets).unwrap()
+}
+
+/// The words of a command line.
+fn words(line: &str) -> Vec<&str> {
+    line.split(' ').filter(|word| !word.is_empty()).collect()
+}
+
+/// Done: this text on standard output, nothing on standard error, exit status 0.
+fn says(line: &str, expected: &str) {
+    let got = answer(&words(line), "");
+    assert_eq!((text(&got.stdout), text(&got.stderr), got.status.code()), (expected, "", Some(0)), "hall {line}");
+}
+
+/// Refused: nothing on standard output, the refusal on standard error, exit status 1.
+fn refuses(line: &str, expected: &str) {
+    let got = answer(&words(line), "");
+    assert_eq!((text(&got.stdout), text(&got.stderr), got.status.code()), ("", format!("{expected}\n").as_str(), Some(1)), "hall {line}");
+}
+
+/// Wrong usage: nothing on standard output, what was expected and the usage on standard error, exit status 2.
+fn misuses(line: &str, expected: &str) {
+    misuses_words(&words(line), expected);
+}
+
+fn misuses_words(words: &[&str], expected: &str) {
+    let got = answer(words, "");
+    assert_eq!((text(&got.stdout), got.status.code()), ("", Some(2)), "hall {words:?}");
+    let said = text(&got.stderr);
+    assert!(said.starts_with(&format!("hall: expected {expected}")), "hall {words:?} says {said}");
+    assert!(said.contains("\nusage: hall "), "hall {words:?} says {said}");
+}
+
+const REFUSED_1: &str = "refused 1: the node record is bad";
+const REFUSED_4: &str = "refused 4: the packet ends too early";
+const REFUSED_5: &str = "refused 5: one of the first three octets is wrong";
+const REFUSED_6: &str = "refused 6: size not allowed, or more pairs than needed";
+const REFUSED_7: &str = "refused 7: destination below this node, child not given";
+const REFUSED_8: &str = "refused 8: IPv6 prefix differs";
+const REFUSED_9: &str = "refused 9: an address is zero";
+const REFUSED_12: &str = "refused 12: an IPv6 address isn't 16 octets, or a prefix isn't 8";
