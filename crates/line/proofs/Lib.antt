@@ -5,4 +5,5 @@ mod Digits
 mod Asked
 pub mod Replies
 pub mod Exact
+pub mod RefusalLaws
 pub mod Promises

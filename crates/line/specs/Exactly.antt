@@ -10,6 +10,13 @@ use Rattle.line.specs.Line.{asked, between, addressText, space, newline,
 unfoldable pub lineOf : ℕ → ℕ → List ℕ
 lineOf a d = addressText a ++ (space ∷ []) ++ addressText d ++ (newline ∷ [])
 
+-- "the one line it reads"
+pub record IsLine (input : List ℕ) : Type 0 where
+  pub first : ℕ
+  pub second : ℕ
+  pub addresses : IsAddress first × IsAddress second
+  pub spelled : input ≡ lineOf first second
+
 pub record ExactlyTheLine : Type 0 where
   pub reads : (a d : ℕ) → IsAddress a → IsAddress d → asked (lineOf a d) ≡ between a d
   pub only : (input : List ℕ) (a d : ℕ) → asked input ≡ between a d → IsAddress a × IsAddress d × (input ≡ lineOf a d)

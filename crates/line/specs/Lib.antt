@@ -1,3 +1,4 @@
 -- What the line crate promises, in definitions and statements alone.
 pub mod Line
 pub mod Exactly
+pub mod Refusals
