@@ -6,4 +6,5 @@ mod Asked
 pub mod Replies
 pub mod Exact
 pub mod RefusalLaws
+pub mod DecimalLaws
 pub mod Promises

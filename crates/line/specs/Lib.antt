@@ -2,3 +2,4 @@
 pub mod Line
 pub mod Exactly
 pub mod Refusals
+pub mod Decimal
