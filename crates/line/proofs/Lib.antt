@@ -7,4 +7,5 @@ pub mod Replies
 pub mod Exact
 pub mod RefusalLaws
 pub mod DecimalLaws
+pub mod EdgeLaws
 pub mod Promises

@@ -3,3 +3,4 @@ pub mod Line
 pub mod Exactly
 pub mod Refusals
 pub mod Decimal
+pub mod Edge
