@@ -1,7 +1,7 @@
 -- An input is refused by its text exactly if it is no line, since a path's text begins otherwise; and the answer is refused exactly if the
 -- text does not fit. Assumes nothing.
 use mathlib.Core.Path.{_≡_, refl, sym, ap, _∙_}
-use mathlib.Core.Logic.{_↔_}
+use mathlib.Core.Logic.{_⊎_, inl, inr, _↔_}
 use mathlib.Core.Bool.{Bool, true, false}
 use mathlib.Core.List.{List, _++_}
 use Prim.Native.Nat.{ℕ}
@@ -30,25 +30,30 @@ outputText-line : (a d : ℕ) → IsAddress a → IsAddress d → outputText (li
 unfolding outputText textFor
 outputText-line a d h l = rw (exactly-the-line .reads a d h l)
 
-outputText-given : (input : List ℕ) → (outputText input ≡ refusedText) ↔ (IsLine input → ⊥)
-outputText-given input = (refused-no-line, no-line-refused)
+outputText-either : (input : List ℕ) → IsLine input ⊎ (outputText input ≡ refusedText)
+unfolding outputText textFor
+outputText-either input = go (asked input) refl
   where
-    refused-no-line : outputText input ≡ refusedText → IsLine input → ⊥
-    refused-no-line e l =
+    go : (q : Asked) → asked input ≡ q → IsLine input ⊎ (textFor q ≡ refusedText)
+    go (between a d) e =
+        let ends = exactly-the-line .only input a d e in
+        inl (record { first = a; second = d; addresses = (ends .0, ends .1); spelled = ends .2 })
+    go unreadable e = inr refl
+
+outputText-given : (input : List ℕ) → (outputText input ≡ refusedText) ↔ (IsLine input → ⊥)
+outputText-given input = (no-line, refused (outputText-either input))
+  where
+    no-line : outputText input ≡ refusedText → IsLine input → ⊥
+    no-line e l =
         let text = outputText-line (l .first) (l .second) (l .addresses .0) (l .addresses .1) in
         pathText-apart (path (l .first) (l .second)) (sym text ∙ sym (ap outputText (l .spelled)) ∙ e)
 
-    no-line-refused : (IsLine input → ⊥) → outputText input ≡ refusedText
-    no-line-refused n = unfold outputText in go (asked input) refl
-      where
-        go : (q : Asked) → asked input ≡ q → textFor q ≡ refusedText
-        go (between a d) e =
-            let ends = exactly-the-line .only input a d e in
-            absurd (n (record { first = a; second = d; addresses = (ends .0, ends .1); spelled = ends .2 }))
-        go unreadable e = unfold textFor in refl
+    refused : IsLine input ⊎ (outputText input ≡ refusedText) → (IsLine input → ⊥) → outputText input ≡ refusedText
+    refused (inl l) n = absurd (n l)
+    refused (inr e) n = e
 
 pub line-refusals : LineRefusals
-line-refusals = record { given = outputText-given; without = outputText-line; apart = pathText-apart }
+line-refusals = record { given = outputText-given; either = outputText-either; without = outputText-line; apart = pathText-apart }
 
 -- ---- the answer
 

@@ -1,6 +1,6 @@
 -- Demand 1 for the path program's work: refusal 11 is its text, refusal 10 its answer, and each is "given exactly when that document says".
 use mathlib.Core.Path.{_≡_}
-use mathlib.Core.Logic.{_↔_}
+use mathlib.Core.Logic.{_⊎_, _↔_}
 use mathlib.Core.List.{List, _++_}
 use Prim.Native.Nat.{ℕ, _<_}
 use lib.ListN.{length, drop}
@@ -13,6 +13,8 @@ use Rattle.line.specs.Exactly.{lineOf, IsLine}
 pub record LineRefusals : Type 0 where
   -- 11: "the path program's input isn't the one line it reads"; "Anything else .. prints `refused 11` and a newline and no more."
   pub given : (input : List ℕ) → (outputText input ≡ refusedText) ↔ (IsLine input → ⊥)
+  -- every input is the one line, or refused
+  pub either : (input : List ℕ) → IsLine input ⊎ (outputText input ≡ refusedText)
   -- and the line of two addresses has the text of the path between them
   pub without : (a d : ℕ) → IsAddress a → IsAddress d → outputText (lineOf a d) ≡ pathText (path a d)
   -- which is no refusal's, whatever the path
