@@ -8,7 +8,7 @@ use Rattle.address.specs.declared.Kind.{Kind}
 use Rattle.address.specs.declared.Kind.the-variants.{Router, Host}
 use Rattle.address.specs.Bits.{root}
 use Rattle.octets.specs.Octets.{WriteEffect, write}
-use Rattle.node.specs.Node.{fresh, withCounts, childOf}
+use Rattle.node.specs.Node.{addressAt, fresh, withCounts, refuseChild, childOf}
 use Rattle.node.specs.declared.Node.{Node}
 use Rattle.forward.specs.Forward.{HopAnswer, upTo, downTo, refusedHop, nextHop}
 use Rattle.header.specs.Header.{writing, reading, refusedHeader}
@@ -19,8 +19,8 @@ afterAll n [] = n
 afterAll n (kind ∷ kinds) = afterAll (childOf n kind .node) kinds
 
 pub data Row : Type 0 where
-  -- a record, the kinds asked before, the kind asked, and the child's address
-  gives : Node → List Kind → Kind → ℕ → Row
+  -- a record, the kinds asked before, the kind asked, the child's address, and the record handed back
+  gives : Node → List Kind → Kind → ℕ → Node → Row
   -- a record, the kind asked, and the refusal's number
   refuses : Node → Kind → ℕ → Row
   -- a record, a destination, and the answer
@@ -31,8 +31,8 @@ pub data Row : Type 0 where
   unread : List ℕ → ℕ → Row
 
 abbrev pub Holds : Row → Type 0
-Holds (gives n before kind address) = (childOf (afterAll n before) kind .refusal ≡ 0) × (childOf (afterAll n before) kind .child .number ≡ address)
-Holds (refuses n kind number) = (childOf n kind .refusal ≡ number) × (childOf n kind .node ≡ n)
+Holds (gives n before kind address after) = childOf (afterAll n before) kind ≡ record { node = after; child = addressAt address; refusal = 0 }
+Holds (refuses n kind number) = childOf n kind ≡ refuseChild number n
 Holds (passes n destination answer) = nextHop n destination ≡ answer
 Holds (writes address buffer octets) = writing address buffer ≡ write octets buffer
 Holds (unread packet number) = reading packet ≡ refusedHeader number
@@ -44,15 +44,15 @@ AllHold (row ∷ rows) = Holds row × AllHold rows
 unfoldable pub table : List Row
 table =
     -- "P root, counts 0,0, router: 10. P then host: 11. P then router: 110. P then host: 111 (000, section 4)."
-    gives (fresh root) [] Router 0b10
-    ∷ gives (fresh root) (Router ∷ []) Host 0b11
-    ∷ gives (fresh root) (Router ∷ Host ∷ []) Router 0b110
-    ∷ gives (fresh root) (Router ∷ Host ∷ Router ∷ []) Host 0b111
+    gives (fresh root) [] Router 0b10 (withCounts 1 0 (fresh root))
+    ∷ gives (fresh root) (Router ∷ []) Host 0b11 (withCounts 1 1 (fresh root))
+    ∷ gives (fresh root) (Router ∷ Host ∷ []) Router 0b110 (withCounts 2 1 (fresh root))
+    ∷ gives (fresh root) (Router ∷ Host ∷ Router ∷ []) Host 0b111 (withCounts 2 2 (fresh root))
     -- "P node 10, counts 1,1: router 1010, host 1011."
-    ∷ gives (withCounts 1 1 (fresh 0b10)) [] Router 0b1010
-    ∷ gives (withCounts 1 1 (fresh 0b10)) [] Host 0b1011
+    ∷ gives (withCounts 1 1 (fresh 0b10)) [] Router 0b1010 (withCounts 2 1 (fresh 0b10))
+    ∷ gives (withCounts 1 1 (fresh 0b10)) [] Host 0b1011 (withCounts 1 2 (fresh 0b10))
     -- "P root with 62 hosts: the next is 64 ones. P with 63: refusal 3."
-    ∷ gives (withCounts 0 62 (fresh root)) [] Host 0xFFFF_FFFF_FFFF_FFFF
+    ∷ gives (withCounts 0 62 (fresh root)) [] Host 0xFFFF_FFFF_FFFF_FFFF (withCounts 0 63 (fresh root))
     ∷ refuses (withCounts 0 63 (fresh root)) Host 3
     -- "P node 11, destination 110: parent, though 11 is a prefix. P node 1 with counts 2,2, destination 110: child 110. P same node, destination
     -- 1110: 7."

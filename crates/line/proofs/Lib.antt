@@ -5,4 +5,7 @@ mod Digits
 mod Asked
 pub mod Replies
 pub mod Exact
+pub mod RefusalLaws
+pub mod DecimalLaws
+pub mod EdgeLaws
 pub mod Promises

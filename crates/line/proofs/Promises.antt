@@ -1,4 +1,5 @@
--- What `answer` promises, by its contract as the code states it, is `reply`: the whole output of specs/Line.antt, where it fits.
+-- What `answer` promises, by its contract as the code states it, is `reply`: the whole output of specs/Line.antt, where it fits. It asks
+-- nothing of what it is handed.
 use mathlib.Core.Path.{_≡_, ap₂}
 use mathlib.Core.List.{List}
 use Prim.Native.Nat.{ℕ}
@@ -12,3 +13,6 @@ pub answer-promise : (κs : Lfts 2) (input input-last out last : RefT (List ℕ)
     → answer-reads.Learnt κs (input, (out, tt)) r (input-last, (last, tt))
     → record { answer = r; buffer = now last } ≡ reply (now input) (now out)
 answer-promise κs input input-last out last r h = ap₂ (λ (w : Written) (l : List ℕ). record { answer = w; buffer = l }) (h .0) (h .1)
+
+pub answer-asks-nothing : (κs : Lfts 2) (input out : RefT (List ℕ)) → answer-reads.Asked κs (input, (out, tt))
+answer-asks-nothing κs input out = tt

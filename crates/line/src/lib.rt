@@ -12,12 +12,30 @@ ghost use Rattle.address.specs.Choice.{if_then_else_};
 ghost use Rattle.octets.specs.Octets.{WriteEffect, refuseWriting, write};
 ghost use Rattle.route.specs.Path.{path};
 ghost use Rattle.line.specs.Line.{refusedText, pathText, reply};
+ghost use Rattle.line.specs.Exactly.{room};
+ghost use Rattle.line.specs.Edge.{window};
 
 // Refusal 10: "lent output too short".
 pub const NO_ROOM: u8 = 10;
 
 // The room that every output fits.
 pub const ROOM: usize = 8200;
+
+// The octets of an input that decide: the longest line and one more, and whatever fills it is no line.
+pub const WINDOW: usize = 131;
+
+// These two tie the constants, which have no name in the definitions, to the specification's.
+fn room() -> usize
+    ensures { λ r. ⌜ r ≡ room ⌝ }
+{
+    ROOM
+}
+
+fn window() -> usize
+    ensures { λ r. ⌜ r ≡ window ⌝ }
+{
+    WINDOW
+}
 
 // Writes "refused 11" and a newline.
 fn refuse(out: &mut [u8]) -> Written

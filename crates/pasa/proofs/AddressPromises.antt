@@ -1,5 +1,5 @@
 -- What the exports about an address alone promise, by their contracts as the code states them, is what the functions below them are defined
--- to answer.
+-- to answer. None of them asks anything of its caller.
 use mathlib.Core.Path.{_≡_}
 use Prim.Native.Nat.{ℕ}
 use Rattle.address.specs.Address.{parent, depth, bitLength}
@@ -24,3 +24,18 @@ is-host-promise a r h = h
 
 pub interface-promise : (r : ℕ) → interface-reads.Learnt tt tt r tt → r ≡ interface
 interface-promise r h = h
+
+pub parent-asks-nothing : (a : ℕ) → parent-reads.Asked tt (a, tt)
+parent-asks-nothing a = tt
+
+pub depth-asks-nothing : (a : ℕ) → depth-reads.Asked tt (a, tt)
+depth-asks-nothing a = tt
+
+pub bit-length-asks-nothing : (a : ℕ) → bit-length-reads.Asked tt (a, tt)
+bit-length-asks-nothing a = tt
+
+pub is-host-asks-nothing : (a : ℕ) → is-host-reads.Asked tt (a, tt)
+is-host-asks-nothing a = tt
+
+pub interface-asks-nothing : interface-reads.Asked tt tt
+interface-asks-nothing = tt

@@ -3,8 +3,7 @@ use libc::STDIN_FILENO;
 use libc::STDOUT_FILENO;
 
 fn main() {
-    // One octet more than the longest line: whatever fills it is no line.
-    let mut input = [0u8; 131];
+    let mut input = [0u8; line::WINDOW];
     let count = io::read_full(STDIN_FILENO, &mut input);
     let mut output = [0u8; line::ROOM];
     let text = line::answer(&input[..count], &mut output);

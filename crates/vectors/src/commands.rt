@@ -75,7 +75,19 @@ const OCTET: u8 = 0xAA;
 
 const WORD: u64 = 0xAA;
 
-// The base of a command's second number.
+// The most octets that are lent.
+const MOST: usize = line::ROOM;
+
+// The bases of a command's first and second number.
+pub(crate) fn first(name: u64) -> u64
+    ensures { λ r. ⌜ 0 < r ⌝ }
+{
+    match name {
+        LINE => 10,
+        _ => 2,
+    }
+}
+
 pub(crate) fn second(name: u64) -> u64
     ensures { λ r. ⌜ 0 < r ⌝ }
 {
@@ -216,10 +228,10 @@ fn item(name: u64, listed: bool, o: u8, value: &[u8], at: usize) -> usize {
     answer::octet(o, value, at)
 }
 
-fn items(name: u64, out: &[u8; 1000], count: usize, value: &[u8], at: usize) -> usize {
+fn items(name: u64, out: &[u8; MOST], count: usize, value: &[u8], at: usize) -> usize {
     let mut to = at;
     let mut i = 0;
-    while i < 1000 {
+    while i < MOST {
         to = item(name, i < count, out[i], value, to);
         i += 1;
     }
@@ -235,7 +247,7 @@ fn write(name: u64, a: Address, x: &[u8], out: &mut [u8]) -> Written {
 }
 
 // The octets written, or for "octets" how many the address takes of them; what else is lent is to be as it was.
-fn shown(name: u64, w: Written, out: &[u8; 1000], value: &[u8]) -> usize {
+fn shown(name: u64, w: Written, out: &[u8; MOST], value: &[u8]) -> usize {
     if w.refusal != 0 {
         return items(
             name,
@@ -251,19 +263,19 @@ fn shown(name: u64, w: Written, out: &[u8; 1000], value: &[u8]) -> usize {
     items(name, out, w.count, value, 0)
 }
 
-// How many octets are lent: the path program lends all.
-fn lent(name: u64, asked: u64) -> usize
-    ensures { λ r. ⌜ r ≤ 1000 ⌝ }
+// How many octets are lent: by the first number where there is no address before it.
+fn lent(name: u64, numbers: Numbers) -> usize
+    ensures { λ r. ⌜ r ≤ 8200 ⌝ }
 {
     if name == LINE {
-        return 1000;
+        return room(numbers.a, MOST);
     }
-    room(asked, 1000)
+    room(numbers.b, MOST)
 }
 
 fn written(name: u64, numbers: Numbers, x: &[u8], value: &[u8]) -> usize {
-    let mut out = [OCTET; 1000];
-    let size = lent(name, numbers.b);
+    let mut out = [OCTET; MOST];
+    let size = lent(name, numbers);
     let w = write(name, Address::of(numbers.a), x, &mut out[0..size]);
     shown(name, w, &out, value)
 }

@@ -15,10 +15,10 @@
 //     read OCTETS                        the address and the place of the payload, or `refused N`
 //     ipv6 A ROOM PREFIX                 the IPv6 form, or `refused N`
 //     back PREFIX OCTETS                 the address in an IPv6 form, or `refused N`
-//     line OCTETS                        the path program's output for an input, with `/` for each newline
+//     line ROOM OCTETS                   the path program's output for an input, with `/` for each newline; or `refused N` and no `/`
 //
 // Addresses and D are binary digits and may be 0, counts, rooms and numbers are decimal, and octets are an `x` and lower-case hexadecimal digits,
-// none of them for no octets. ROOM is how many words or octets are lent, at most 130 and 1000; they hold AA before,
+// none of them for no octets. ROOM is how many words or octets are lent, at most 130 and 8200; they hold AA before,
 // and ` changed` stands behind the answer for each one that was not to be written and is no longer AA. Behind a refusal ` with` and the number
 // beside it would stand, were it not 0.
 //
@@ -67,7 +67,7 @@ fn run(asked: &[u8], end: usize, name: u64, value: &[u8]) -> usize {
     }
     commands::run(
         name,
-        read::arguments(asked, end, commands::second(name)),
+        read::arguments(asked, end, commands::first(name), commands::second(name)),
         x,
         value,
     )
@@ -139,9 +139,9 @@ fn conclude(count: u64) {
 }
 
 fn main() {
-    let mut input = [0u8; 16384];
+    let mut input = [0u8; 32768];
     let count = io::read_full(STDIN_FILENO, &mut input);
-    if count == 16384 {
+    if count == 32768 {
         say(b"input too long\n");
         return;
     }

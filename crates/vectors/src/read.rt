@@ -40,11 +40,11 @@ fn digits(text: &[u8], from: usize, base: u64) -> Run
     Run { end: i, value }
 }
 
-// The numbers behind a place: an address, a second number in the base told, a third in decimal digits and another address.
-pub(crate) fn arguments(text: &[u8], from: usize, second: u64) -> Numbers
-    requires { ⌜ 0 < second ⌝ }
+// The numbers behind a place: two in the bases told, a third in decimal digits and an address.
+pub(crate) fn arguments(text: &[u8], from: usize, first: u64, second: u64) -> Numbers
+    requires { ⌜ (0 < first) × (0 < second) ⌝ }
 {
-    let a = digits(text, from, 2);
+    let a = digits(text, from, first);
     let b = digits(text, a.end, second);
     let c = digits(text, b.end, 10);
     let d = digits(text, c.end, 2);

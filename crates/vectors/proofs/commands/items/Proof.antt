@@ -6,10 +6,10 @@ use Rattle.vectors.proofs.commands.items.Statement.{statement}
 use Rattle.vectors.proofs.commands.items.Tie as tie
 
 abbrev Inv-loop : tie.InvT-loop
-Inv-loop name out count value at to₀ i₀ to i = i ≤ 1000
+Inv-loop name out count value at to₀ i₀ to i = i ≤ 8200
 
 abbrev μ-loop : tie.MeasureT-loop
-μ-loop name out count value at to₀ i₀ to i = 1000 - i
+μ-loop name out count value at to₀ i₀ to i = 8200 - i
 
 loop-holds : tie.Need-loop-holds Inv-loop μ-loop
 loop-holds c = search needs
