@@ -3,6 +3,8 @@ pub mod Turning
 pub mod PathLaws
 pub mod Length
 mod Underway
+mod Common
+mod Zeros
 mod Listing
 pub mod Words
 pub mod RefusalLaws

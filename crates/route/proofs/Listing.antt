@@ -1,20 +1,25 @@
--- What listing comes to, case by case, and the words as the code leaves them: the way up to the turning point, the way down from it, and the
--- second address. Assumes nothing.
-use mathlib.Core.Path.{_≡_, ap, _∙_}
-use mathlib.Core.List.{List, [], _∷_, _++_, append-assoc}
-use Prim.Native.Nat.{ℕ, suc, _+_, _-_, _≤_, _<_}
+-- What listing comes to, case by case, and the path by parents: an address's ancestors above the turning point are its parents, one after the
+-- other, and so are those down to the second address, from its end. Assumes nothing.
+use mathlib.Core.Path.{_≡_, refl, sym, ap, _∙_}
+use mathlib.Core.Logic.{_⊎_, inl, inr}
+use mathlib.Core.List.{List, [], _∷_, _++_, map, map-append, reverse, reverse-cons, reverse-append, append-assoc}
+use Prim.Native.Nat.{ℕ, zero, suc, _+_, _-_, _≤_, _<_}
 use native.Mathlib.Numerals.{add-one}
 use native.Mathlib.Omega.{arith}
 use borrow.Author.Tests.{eq-eqb, ne-eqb, lt-ltb, le-ltb}
 use borrow.Rule.Slice.PartMut.{putMid}
-use lib.ListN.{length, drop, set, getD, length-append}
-use lib.Seq.{take-at, drop-at, drop-drop, drop-cons, set-at}
-use Rattle.address.specs.Steps.{steps, addressOf}
-use Rattle.address.specs.Address.{depth}
+use lib.ListN.{length, drop}
+use lib.Seq.{take-at, drop-at, drop-drop}
+use Rattle.address.specs.Bits.{root}
+use Rattle.address.specs.Steps.{Step, steps, addressOf}
+use Rattle.address.specs.Address.{depth, parent}
 use Rattle.address.specs.Numbers.{IsAddress}
 use Rattle.address.specs.Ancestors.{AncestorOrSelf}
-use Rattle.route.specs.Path.{turn, path, hops, refusePath, listing}
-use Rattle.route.proofs.PathLaws.{address-turn, turn-first, turn-second, length-path-up, length-path-down, length-path-turn, path-turn}
+use Rattle.address.proofs.Steps.{addressOf-steps, depth-range}
+use Rattle.route.specs.Path.{turn, below, pathOf, path, hops, refusePath, listing}
+use Rattle.route.specs.Counting.{upwards}
+use Rattle.route.proofs.Turning.{ancestorOrSelf-cases, ancestorOrSelf-same, turning-points, below-short, below-cons}
+use Rattle.route.proofs.PathLaws.{depth-steps, address-parent, steps-parent, depth-parent, length-path}
 
 module _ (a d : ℕ) (words : List ℕ) where
   pub listing-zero-first : a ≡ 0 → listing a d words ≡ refusePath 9 words
@@ -35,36 +40,66 @@ module _ (a d : ℕ) (words : List ℕ) where
     unfolding listing
     listing-done r = rw (ne-eqb a 0 h, ne-eqb d 0 l, le-ltb (length words) (length (path a d)) r)
 
--- The path from a to d over its turning point x: the way up to x, without x, takes `up` words, and all of it, without d, takes `hops`.
-pub record Over (a d x up hops : ℕ) : Type 0 where
-  pub point : IsAddress x
-  pub first : AncestorOrSelf (steps x) (steps a)
-  pub second : AncestorOrSelf (steps x) (steps d)
-  pub upward : length (path a x) ≡ up + 1
-  pub downward : length (path x d) + up ≡ hops + 1
-  pub whole : length (path a d) ≡ hops + 1
-  pub joined : (us vs : List ℕ) → path a x ≡ us ++ (x ∷ []) → path x d ≡ vs ++ (d ∷ []) → path a d ≡ us ++ (vs ++ (d ∷ []))
+-- the parents of an address
 
-pub over : {a x : ℕ} (d up hops : ℕ) → IsAddress a → x ≡ addressOf (turn (steps a) (steps d)) → up + depth x ≡ depth a → hops + depth x ≡ up + depth d
-    → Over a d x up hops
-over {a} {x} d up hops h e p q =
-    let v = turn-first h d e in
-    let w = turn-second h d e in
-    record {
-      point = address-turn h d e;
-      first = v;
-      second = w;
-      upward = omega (arith, length-path-up x a v);
-      downward = omega (arith, length-path-down x d w);
-      whole = omega (arith, length-path-turn h d e);
-      joined = λ us vs f g. path-turn h d e us f ∙ ap (λ (l : List ℕ). us ++ l) g;
-    }
+module _ {a : ℕ} (h : IsAddress a) (p : 0 < depth a) where
+  low : a ≡ root → ⊥
+  low e = omega (arith, ap depth e, depth-range .least)
 
--- the words with the way up put in front, the way down behind it, and the end behind that
-pub framed : (words us vs : List ℕ) (d up last : ℕ) → length us ≡ up → length vs ≡ last - up → up ≤ last → last < length words
-    → set (putMid up (last - up) (us ++ drop up words) vs) last d ≡ (us ++ (vs ++ (d ∷ []))) ++ drop (last + 1) words
-framed words us vs d up last e f h l =
-    let k : up + (last - up) ≡ last = omega arith in
-    rw (take-at us (drop up words) up e, drop-at us (drop up words) up e, drop-drop (last - up) up words, k, drop-cons words last 0 l, ← append-assoc us vs)
-    (set-at (us ++ vs) (getD words last 0) (drop (suc last) words) d last (length-append us vs ∙ omega arith)
-    ∙ rw (add-one last, ← append-assoc us vs (d ∷ []), append-assoc (us ++ vs) (d ∷ [])))
+  address-above : IsAddress (parent a)
+  address-above = address-parent h low
+
+  depth-above : depth a ≡ depth (parent a) + 1
+  depth-above = depth-parent h low
+
+  below-above : (k : ℕ) → k < depth a → below k (steps a) ≡ steps a ∷ below k (steps (parent a))
+  below-above k l =
+      let (s, e) = steps-parent h low in
+      ap (below k) e
+      ∙ below-cons k s (steps (parent a)) (omega (arith, depth-above, depth-steps (parent a)))
+      ∙ ap (λ (ss : List Step). ss ∷ below k (steps (parent a))) (sym e)
+
+  ancestorOrSelf-above : (x : List Step) → AncestorOrSelf x (steps a) → length x < depth a → AncestorOrSelf x (steps (parent a))
+  ancestorOrSelf-above x w l = let (s, e) = steps-parent h low in go s e (ancestorOrSelf-cases x s (steps (parent a)) (rw e at w))
+    where
+      go : (s : Step) → steps a ≡ s ∷ steps (parent a) → (x ≡ s ∷ steps (parent a)) ⊎ AncestorOrSelf x (steps (parent a)) → AncestorOrSelf x (steps (parent a))
+      go s e (inl f) = absurd (omega (arith, ap length (f ∙ sym e), depth-steps a))
+      go s e (inr v) = v
+
+upwards-below : (n k : ℕ) {a : ℕ} → IsAddress a → k + n ≡ depth a → upwards n a ≡ map addressOf (below k (steps a))
+unfolding upwards
+upwards-below zero k {a} h e = rw (below-short k (steps a) (omega (arith, depth-steps a)))
+upwards-below (suc n) k {a} h e =
+    let p : 0 < depth a = omega arith in
+    rw (below-above h p k (omega arith), addressOf-steps h, upwards-below n k (address-above h p) (omega (arith, depth-above h p)))
+
+upwards-snoc : (n : ℕ) {a : ℕ} (x : List Step) → IsAddress a → AncestorOrSelf x (steps a) → length x + n ≡ depth a
+    → upwards (suc n) a ≡ upwards n a ++ (addressOf x ∷ [])
+unfolding upwards
+upwards-snoc zero {a} x h w e = rw (ancestorOrSelf-same x (steps a) w (omega (arith, depth-steps a)), addressOf-steps h)
+upwards-snoc (suc n) {a} x h w e =
+    let p : 0 < depth a = omega arith in
+    ap (λ (l : List ℕ). a ∷ l) (upwards-snoc n x (address-above h p) (ancestorOrSelf-above h p x w (omega arith)) (omega (arith, depth-above h p)))
+
+map-reverse : {A B : Type 0} (f : A → B) (l : List A) → map f (reverse l) ≡ reverse (map f l)
+map-reverse f [] = refl
+map-reverse f (x ∷ l) = ap (map f) (reverse-cons x l) ∙ rw (map-append, map-reverse f l, reverse-cons)
+
+-- the path, by the hops up to its turning point and down from it
+module _ {a d : ℕ} (up down : ℕ) (h : IsAddress a) (l : IsAddress d) (e : length (turn (steps a) (steps d)) + up ≡ depth a)
+    (f : length (turn (steps a) (steps d)) + down ≡ depth d) where
+  pub length-path-ways : length (path a d) ≡ up + down + 1
+  length-path-ways = omega (arith, length-path a d)
+
+  pub path-upwards : path a d ≡ upwards up a ++ reverse (upwards (down + 1) d)
+  unfolding path pathOf
+  path-upwards =
+      let x = turn (steps a) (steps d) in
+      rw (add-one down, upwards-snoc down x l (turning-points (steps a) (steps d) .ofSecond) f, reverse-append, map-append, map-reverse, upwards-below up (length x) h e, upwards-below down (length x) l f)
+
+-- the words with the way up put in front, and the way down behind it
+pub framed : (words us vs : List ℕ) (up end : ℕ) → length us ≡ up → up ≤ end
+    → putMid up (end - up) (us ++ drop up words) vs ≡ (us ++ vs) ++ drop end words
+framed words us vs up end e h =
+    let k : up + (end - up) ≡ end = omega arith in
+    rw (take-at us (drop up words) up e, drop-at us (drop up words) up e, drop-drop (end - up) up words, k, append-assoc)

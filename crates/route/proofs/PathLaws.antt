@@ -3,22 +3,20 @@
 use mathlib.Core.Path.{_≡_, refl, sym, ap, _∙_}
 use mathlib.Core.Logic.{_⊎_, inl, inr, ⊎-elim}
 use mathlib.Core.Bool.{Bool, true, false}
-use mathlib.Core.List.{List, [], _∷_, _++_, map, map-append, append-cancel-right, List·Memᴰ, List·Memᴰ·cases-cons, List·Memᴰ·not-nil, Memᴰ·of-map}
+use mathlib.Core.List.{List, [], _∷_, _++_, map, map-append, List·Memᴰ, List·Memᴰ·cases-cons, List·Memᴰ·not-nil, Memᴰ·of-map}
 use Prim.Native.Nat.{ℕ, _+_, _*_, _≤_, _<_}
-use native.Mathlib.Nat.{le-refl, le-mul-of-pos-right}
 use native.Mathlib.Omega.{arith}
 use lib.ListN.{length, length-append, length-map}
-use lib.Pow.{pow-pos}
 use Rattle.address.specs.Bits.{longest, root}
-use Rattle.address.specs.Steps.{Step, child, steps, spelled, addressOf}
+use Rattle.address.specs.Steps.{Step, steps, spelled, addressOf}
 use Rattle.address.specs.Address.{depth, parent}
 use Rattle.address.specs.Numbers.{IsAddress}
 use Rattle.address.specs.Ancestors.{AncestorOrSelf}
 use Rattle.address.proofs.Numbers.{bitLength-le}
-use Rattle.address.proofs.Steps.{addressOf-steps, addressOf-root, addressOf-child, parent-addressOf, depth-range}
+use Rattle.address.proofs.Steps.{addressOf-steps, addressOf-root, parent-addressOf, depth-range}
 use Rattle.address.proofs.Ancestors.{routers-above, length-tail, address-tail, steps-tail, steps-injective}
 use Rattle.route.specs.Path.{isAncestorOrSelf, turn, below, pathOf, path, hops}
-use Rattle.route.proofs.Turning.{ancestorOrSelf-root, ancestorOrSelf-length, ancestorOrSelf-next, isAncestorOrSelf-true, isAncestorOrSelf-false, turn-on, turn-on-comm, turn-off, turning-points, pathOf-turn, pathOf-on-comm, pathOf-self, pathOf-up, pathOf-down, pathOf-first, pathOf-last, length-pathOf, length-pathOf-cons, mem-pathOf}
+use Rattle.route.proofs.Turning.{ancestorOrSelf-root, ancestorOrSelf-next, isAncestorOrSelf-true, isAncestorOrSelf-false, pathOf-self, pathOf-up, pathOf-down, pathOf-first, pathOf-last, length-pathOf, length-pathOf-cons, mem-pathOf}
 
 -- an ancestor-or-self, as an address
 
@@ -28,20 +26,6 @@ module _ {d : ℕ} (b : IsAddress d) (x : List Step) (w : AncestorOrSelf x (step
 
   pub steps-ancestorOrSelf : steps (addressOf x) ≡ x
   steps-ancestorOrSelf = steps-tail b (w .0) x (w .1)
-
--- an ancestor's number is the smaller one
-
-addressOf-le : (dropped x : List Step) → addressOf x ≤ addressOf (dropped ++ x)
-addressOf-le [] x = le-refl (addressOf x)
-addressOf-le (child k i ∷ dropped) x =
-    let n = addressOf (dropped ++ x) in
-    omega (arith, addressOf-le dropped x, addressOf-child k i (dropped ++ x), le-mul-of-pos-right n (pow-pos i))
-
-pub le-ancestorOrSelf : {c d : ℕ} → IsAddress c → IsAddress d → AncestorOrSelf (steps c) (steps d) → c ≤ d
-le-ancestorOrSelf {c} a b (dropped, e) = rw (← e, addressOf-steps a, addressOf-steps b) at (addressOf-le dropped (steps c))
-
-pub off-larger : {a d : ℕ} → IsAddress a → IsAddress d → a < d → AncestorOrSelf (steps d) (steps a) → ⊥
-off-larger h b l w = omega (arith, le-ancestorOrSelf b h w)
 
 -- the parent of what is not the root
 
@@ -82,12 +66,6 @@ module _ {a : ℕ} (h : IsAddress a) (below : a ≡ root → ⊥) where
   unfolding path
   length-path-parent d =
       let (s, e) = steps-parent in rw (length-map, length-map, e) (length-pathOf-cons s (steps (parent a)) (steps d))
-
--- where one that is no ancestor-or-self of the other goes up, the turning point stays
-pub turn-parent : {a : ℕ} → IsAddress a → (d : ℕ) → (AncestorOrSelf (steps a) (steps d) → ⊥) → turn (steps (parent a)) (steps d) ≡ turn (steps a) (steps d)
-turn-parent {a} h d off =
-    let (s, e) = steps-parent h (off-root a d off) in
-    sym (ap (λ (ss : List Step). turn ss (steps d)) e ∙ turn-off s (steps (parent a)) (steps d) (rw e at off))
 
 -- the path
 
@@ -142,12 +120,6 @@ pub hops-self : {a : ℕ} → IsAddress a → hops (path a a) ≡ 0
 unfolding hops
 hops-self h = rw (path-self h)
 
-pub length-path-up : (x a : ℕ) → AncestorOrSelf (steps x) (steps a) → length (path a x) + depth x ≡ depth a + 1
-length-path-up x a w = omega (arith, length-path a x, depth-steps x, ap length (turn-on-comm (steps x) (steps a) w))
-
-pub length-path-down : (x d : ℕ) → AncestorOrSelf (steps x) (steps d) → length (path x d) + depth x ≡ depth d + 1
-length-path-down x d w = omega (arith, length-path x d, depth-steps x, ap length (turn-on (steps x) (steps d) w))
-
 -- on from an address to the next one on the path
 pub record Next (a b d : ℕ) : Type 0 where
   pub address : IsAddress b
@@ -200,38 +172,6 @@ path-once {a} {d} h b us x vs e m = go (mem-split vs m) (path-suffix h b us x vs
     go (ps, qs, f) (k, p) =
         let (l, q) = path-suffix k b (x ∷ ps) x qs (p ∙ ap (λ (r : List ℕ). x ∷ r) f) in
         omega (arith, ap length f, ap length p, ap length q, length-append ps (x ∷ qs))
-
--- over the turning point, as an address
-
-module _ {a x : ℕ} (h : IsAddress a) (d : ℕ) (e : x ≡ addressOf (turn (steps a) (steps d))) where
-  pub address-turn : IsAddress x
-  address-turn = rw e (address-ancestorOrSelf h (turn (steps a) (steps d)) (turning-points (steps a) (steps d) .ofFirst))
-
-  pub steps-turn : steps x ≡ turn (steps a) (steps d)
-  steps-turn = rw e (steps-ancestorOrSelf h (turn (steps a) (steps d)) (turning-points (steps a) (steps d) .ofFirst))
-
-  pub turn-first : AncestorOrSelf (steps x) (steps a)
-  turn-first = rw steps-turn (turning-points (steps a) (steps d) .ofFirst)
-
-  pub turn-second : AncestorOrSelf (steps x) (steps d)
-  turn-second = rw steps-turn (turning-points (steps a) (steps d) .ofSecond)
-
-  pub depth-turn-first : depth x ≤ depth a
-  depth-turn-first = omega (arith, depth-steps x, depth-steps a, ancestorOrSelf-length (steps x) (steps a) turn-first)
-
-  pub depth-turn-second : depth x ≤ depth d
-  depth-turn-second = omega (arith, depth-steps x, depth-steps d, ancestorOrSelf-length (steps x) (steps d) turn-second)
-
-  pub length-path-turn : length (path a d) + 2 * depth x ≡ depth a + depth d + 1
-  length-path-turn = omega (arith, length-path a d, depth-steps x, ap length steps-turn)
-
-  pub path-turn : (up : List ℕ) → path a x ≡ up ++ (x ∷ []) → path a d ≡ up ++ path x d
-  unfolding path
-  path-turn up p =
-      let above = map addressOf (below (length (steps x)) (steps a)) in
-      let q : path a x ≡ above ++ (x ∷ []) = rw (pathOf-on-comm (steps x) (steps a) turn-first, map-append, addressOf-steps address-turn) in
-      let same : above ≡ up = append-cancel-right above up (x ∷ []) (sym q ∙ p) in
-      ap (map addressOf) (pathOf-turn (steps a) (steps d)) ∙ rw (← steps-turn, map-append, same)
 
 -- every number listed is the address of an ancestor-or-self of one of the ends
 pub mem-path : {a d n : ℕ} → IsAddress a → IsAddress d → List·Memᴰ n (path a d)

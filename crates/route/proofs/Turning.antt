@@ -94,9 +94,6 @@ pub ancestorOrSelf-same : (xs ys : List Step) → AncestorOrSelf xs ys → lengt
 ancestorOrSelf-same xs ys ([], e) h = sym e
 ancestorOrSelf-same xs ys (d ∷ dropped, e) h = absurd (omega (arith, ap length e, length-append dropped xs))
 
-pub ancestorOrSelf-antisym : (xs ys : List Step) → AncestorOrSelf xs ys → AncestorOrSelf ys xs → xs ≡ ys
-ancestorOrSelf-antisym xs ys v w = ancestorOrSelf-same xs ys v (ancestorOrSelf-length ys xs w)
-
 pub ancestorOrSelf-unique : (xs ys zs : List Step) → AncestorOrSelf xs zs → AncestorOrSelf ys zs → length xs ≡ length ys → xs ≡ ys
 ancestorOrSelf-unique xs ys zs v w e = ancestorOrSelf-same xs ys (ancestorOrSelf-le xs ys zs v w (omega arith)) (omega arith)
 
@@ -171,10 +168,6 @@ turn-comm ss ts =
 pub turn-self : (ss : List Step) → turn ss ss ≡ ss
 turn-self ss = turn-on ss ss (ancestorOrSelf-refl ss)
 
--- `turn-on` from the other side
-pub turn-on-comm : (ss ts : List Step) → AncestorOrSelf ss ts → turn ts ss ≡ ss
-turn-on-comm ss ts w = turn-comm ts ss ∙ turn-on ss ts w
-
 pub length-turn-first : (ss ts : List Step) → length (turn ss ts) ≤ length ss
 length-turn-first ss ts = ancestorOrSelf-length (turn ss ts) ss (turning-points ss ts .ofFirst)
 
@@ -232,11 +225,6 @@ mem-below k (s ∷ up) x m = go (ltb k (length (s ∷ up))) m (mem-below k up x)
 pub pathOf-on : (x ts : List Step) → AncestorOrSelf x ts → pathOf x ts ≡ x ∷ reverse (below (length x) ts)
 unfolding pathOf
 pathOf-on x ts w = rw (turn-on x ts w, below-self x)
-
--- up to one that is on the way
-pub pathOf-on-comm : (x ss : List Step) → AncestorOrSelf x ss → pathOf ss x ≡ below (length x) ss ++ (x ∷ [])
-unfolding pathOf
-pathOf-on-comm x ss w = rw (turn-on-comm x ss w, below-self x)
 
 -- up, and from the turning point down
 pub pathOf-turn : (ss ts : List Step) → pathOf ss ts ≡ below (length (turn ss ts)) ss ++ pathOf (turn ss ts) ts

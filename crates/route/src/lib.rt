@@ -1,12 +1,14 @@
 // The path between two addresses, into lent words: specs/Path.antt says what it is.
 use address::Address;
 ghost use mathlib.Core.Path.{_≡_};
-ghost use mathlib.Core.List.{List, [], _∷_, _++_};
-ghost use Prim.Native.Nat.{_+_, _<_};
+ghost use mathlib.Core.List.{reverse};
+ghost use Prim.Native.Nat.{_+_, _*_, _<_};
 ghost use lib.ListN.{length};
-ghost use Rattle.address.specs.Steps.{steps, addressOf};
-ghost use Rattle.address.specs.Ancestors.{AncestorOrSelf};
-ghost use Rattle.route.specs.Path.{turn, path, listing};
+ghost use Rattle.address.specs.Bits.{bits, number};
+ghost use Rattle.address.specs.Steps.{steps};
+ghost use Rattle.address.specs.Address.{depth};
+ghost use Rattle.route.specs.Path.{turn, listing};
+ghost use Rattle.route.specs.Counting.{upwards, stepsBehind, marks};
 
 // Refusal 10: "lent output too short".
 pub const NO_ROOM: u8 = 10;
@@ -18,49 +20,71 @@ pub struct Listed {
     pub hops: u32,
 }
 
-// The deepest common ancestor-or-self of two addresses: of what is left of the two the larger number goes up, until they are the same. An
-// ancestor's number is the smaller one, so what goes up is no ancestor of the other.
-fn turning_point(first: Address, second: Address) -> Address
-    requires { ⌜ (0 < first .number) × (0 < second .number) ⌝ }
-    ensures { λ r. ⌜ r .number ≡ addressOf (turn (steps (first .number)) (steps (second .number))) ⌝ }
-{
-    let mut a = first;
-    let mut d = second;
-    while a.number != d.number {
-        if a.number < d.number {
-            d = d.parent();
-        } else {
-            a = a.parent();
-        }
-    }
-    a
+// The hops of a path: up to its turning point, and down from there.
+struct Ways {
+    up: u32,
+    down: u32,
 }
 
-// Lists an address and its ancestors up to, and without, the one named.
-fn list_up(first: Address, top: Address, words: &mut [u64])
-    requires { ⌜ (0 < first .number) × (0 < top .number) × AncestorOrSelf (steps (top .number)) (steps (first .number)) × (length (path (first .number) (top .number)) ≡ length (now words) + 1) ⌝ }
-    ensures { λ _. ⌜ path (first .number) (top .number) ≡ now (words .exit) ++ (top .number ∷ []) ⌝ }
+// The zeros behind an address's first bit as ones, from the word's first place on. Behind its last bit are zeros, so that what is padded
+// reads as ones, which are no steps.
+fn marked(address: Address) -> u64
+    requires { ⌜ 0 < address .number ⌝ }
+    ensures { λ r. ⌜ r ≡ number (marks (bits (address .number))) * 2 ⌝ }
+{
+    !address.number << u64::leading_zeros(address.number) << 1
+}
+
+// The steps of an address behind its first bit and `common` more.
+fn steps_behind(address: Address, common: u32) -> u32
+    requires { ⌜ (0 < address .number) × (common < 64) ⌝ }
+    ensures { λ r. ⌜ r ≡ stepsBehind common (address .number) ⌝ }
+{
+    let zeros = u64::count_ones(marked(address) << common);
+    if address.is_host() {
+        return zeros + 1;
+    }
+    zeros
+}
+
+// The turning point of two addresses that differ has the steps of the bits that both begin with, a step for each 0, so what either has behind
+// these is its way. More bits than both have may be taken for common ones, but none of them is a 0 of either.
+fn count_ways(first: Address, second: Address) -> Ways
+    requires { ⌜ (0 < first .number) × (0 < second .number) ⌝ }
+    ensures { λ r. ⌜ (length (turn (steps (first .number)) (steps (second .number))) + r .up ≡ depth (first .number)) × (length (turn (steps (first .number)) (steps (second .number))) + r .down ≡ depth (second .number)) ⌝ }
+{
+    if first.number == second.number {
+        return Ways { up: 0, down: 0 };
+    }
+    let common = u64::leading_zeros((marked(first) ^ marked(second)) | 1);
+    let up = steps_behind(first, common);
+    let down = steps_behind(second, common);
+    Ways { up, down }
+}
+
+// Lists an address and its ancestors, upwards, as many as there are words.
+fn list_up(first: Address, words: &mut [u64])
+    ensures { λ _. ⌜ now (words .exit) ≡ upwards (length (now (words .entry))) (first .number) ⌝ }
 {
     let mut a = first;
     let mut i = 0;
-    while a.number != top.number {
+    while i < words.len() {
         words[i] = a.number;
         i += 1;
         a = a.parent();
     }
 }
 
-// Lists the addresses from an ancestor-or-self down to, and without, the one named.
-fn list_down(top: Address, second: Address, words: &mut [u64])
-    requires { ⌜ (0 < top .number) × (0 < second .number) × AncestorOrSelf (steps (top .number)) (steps (second .number)) × (length (path (top .number) (second .number)) ≡ length (now words) + 1) ⌝ }
-    ensures { λ _. ⌜ path (top .number) (second .number) ≡ now (words .exit) ++ (second .number ∷ []) ⌝ }
+// Lists an address and its ancestors, downwards: the address is the last, and the parents fill the words from there to the first.
+fn list_down(second: Address, words: &mut [u64])
+    ensures { λ _. ⌜ now (words .exit) ≡ reverse (upwards (length (now (words .entry))) (second .number)) ⌝ }
 {
-    let mut a = top;
-    let mut i = 0;
-    while a.number != second.number {
+    let mut a = second;
+    let mut i = words.len();
+    while 0 < i {
+        i -= 1;
         words[i] = a.number;
-        i += 1;
-        a = search::first_bits(second, search::child_end(second, a.bit_length()));
+        a = a.parent();
     }
 }
 
@@ -80,10 +104,9 @@ pub fn path(first: Address, second: Address, words: &mut [u64]) -> Listed
             hops: 0,
         };
     }
-    let top = turning_point(first, second);
-    let level = top.depth();
-    let up = first.depth() - level;
-    let hops = up + (second.depth() - level);
+    let ways = count_ways(first, second);
+    let up = ways.up;
+    let hops = up + ways.down;
     let at = up as usize;
     let last = hops as usize;
     if words.len() <= last {
@@ -92,8 +115,8 @@ pub fn path(first: Address, second: Address, words: &mut [u64]) -> Listed
             hops: 0,
         };
     }
-    list_up(first, top, &mut words[..at]);
-    list_down(top, second, &mut words[at..last]);
-    words[last] = second.number;
+    let end = last + 1;
+    list_up(first, &mut words[..at]);
+    list_down(second, &mut words[at..end]);
     Listed { refusal: 0, hops }
 }

@@ -1,76 +1,51 @@
--- `route::list_down` meets its contract: what is left of the path goes on from the next child on the way, until nothing but its end is left.
-use mathlib.Core.Path.{_≡_, refl}
+-- `route::list_down` meets its contract: what is left goes on from the parent, until the first word is written.
+use mathlib.Core.Path.{_≡_, refl, ap, _∙_}
+use Prim.Native.Nat.{ℕ}
+use mathlib.Core.List.{reverse}
 use borrow.Author.Needs.{needs}
 use native.Mathlib.Omega.{arith}
 use lib.ListN.{length, length-set}
-use Rattle.address.specs.Steps.{steps}
-use Rattle.address.specs.Numbers.{IsAddress}
-use Rattle.address.specs.Ancestors.{AncestorOrSelf}
-use Rattle.route.specs.Path.{path}
-use Rattle.route.proofs.PathLaws.{Next}
-use Rattle.route.proofs.Underway.{nextChild, next-child, Underway, underway-start, underway-less, underway-place, underway-next, underway-end}
+use Rattle.route.specs.Counting.{upwards}
+use Rattle.route.proofs.Underway.{Down, down-start, down-next, down-end}
 use Rattle.route.proofs.list_down.Statement.{statement}
 use Rattle.route.proofs.list_down.Tie as tie
 
 abbrev Inv-loop : tie.InvT-loop
-Inv-loop second words₀ a₀ i₀ words a i =
-    Underway (path (a₀ .number) (second .number)) words (a .number) (second .number) i
-    × AncestorOrSelf (steps (a .number)) (steps (second .number))
-    × (length words ≡ length words₀)
+Inv-loop words₀ a₀ i₀ words a i = Down (a₀ .number) words (a .number) i × (length words ≡ length words₀)
 
 abbrev μ-loop : tie.MeasureT-loop
-μ-loop second words₀ a₀ i₀ words a i = length (path (a .number) (second .number))
+μ-loop words₀ a₀ i₀ words a i = i
 
 loop-holds : tie.Need-loop-holds Inv-loop μ-loop
-loop-holds c =
-    let args = c .before .args in
-    let top : IsAddress (args .top .number) = record { some = omega arith; fits = omega arith } in
-    let second : IsAddress (args .second .number) = record { some = omega arith; fits = omega arith } in
-    (underway-start (args .words .now) top second (c .before .pre .3), c .before .pre .2, refl)
+loop-holds c = let args = c .before .args in (down-start (args .words .now) (args .second .number), refl)
 
-next : (c : tie.Then1 Inv-loop μ-loop)
-    → let at = c .before .before .before in
-    let a = at .loop .a .number in
-    let d = at .before .before .args .second .number in
-    Next a (nextChild a d) d × AncestorOrSelf (steps (nextChild a d)) (steps d)
-next c = let inv = c .before .before .before .loop .inv in next-child (inv .0 .from) (inv .0 .to) (λ e. omega arith) (inv .1)
+sub-i : tie.Need-sub-i Inv-loop μ-loop
+sub-i c = search needs
 
 mul-words : tie.Need-mul-words Inv-loop μ-loop
-mul-words c = omega (arith, underway-place (c .before .before .before .loop .inv .0) (next c .0))
+mul-words c = search needs
 
 slice-write-words : tie.Need-slice-write-words Inv-loop μ-loop
-slice-write-words c = underway-place (c .before .before .before .loop .inv .0) (next c .0)
+slice-write-words c = search needs
 
-add-i : tie.Need-add-i Inv-loop μ-loop
-add-i c = omega (arith, underway-place (c .before .before .before .loop .inv .0) (next c .0))
-
-bit-length-requires : tie.Need-bit-length-requires Inv-loop μ-loop
-bit-length-requires c κs = search needs
-
-child-end-requires : tie.Need-child-end-requires Inv-loop μ-loop
-child-end-requires c κs = search needs
-
-first-bits-requires : tie.Need-first-bits-requires Inv-loop μ-loop
-first-bits-requires c κs = search needs
+parent-requires : tie.Need-parent-requires Inv-loop μ-loop
+parent-requires c κs = search needs
 
 loop-less : tie.Need-loop-less Inv-loop μ-loop
-loop-less c =
-    let inv = c .before .before .before .before .before .before .loop .inv in
-    rw (c .first-bits .ensures, c .before .child-end .ensures, c .before .before .bit-length .ensures)
-    (underway-less (inv .0) (next (c .before .before .before) .0))
+loop-less c = omega arith
 
 loop-again : tie.Need-loop-again Inv-loop μ-loop
 loop-again c =
-    let inv = c .before .before .before .before .before .before .loop .inv in
-    let on = next (c .before .before .before) in
-    rw (c .first-bits .ensures, c .before .child-end .ensures, c .before .before .bit-length .ensures)
-    (underway-next (inv .0) (on .0), on .1, simp length-set (inv .2))
+    let loop = c .before .before .loop in
+    rw (c .parent .ensures) (down-next (loop .inv .0) (omega arith), simp length-set (loop .inv .1))
 
 same-length : tie.Need-same-length Inv-loop μ-loop
-same-length c = c .before .before .before .loop .inv .2
+same-length c = search needs
 
 returns : tie.Need-returns Inv-loop μ-loop
-returns c = underway-end (c .before .before .before .loop .inv .0) (omega arith)
+returns c =
+    let at = c .before in
+    down-end (at .loop .inv .0) (omega arith) ∙ ap (λ (n : ℕ). reverse (upwards n (at .before .before .args .second .number))) (at .loop .inv .1)
 
 pub list-down-spec : {M : Type 1} → statement M
 list-down-spec =
@@ -79,12 +54,10 @@ list-down-spec =
     Inv-loop
     μ-loop
     loop-holds
+    sub-i
     mul-words
     slice-write-words
-    add-i
-    bit-length-requires
-    child-end-requires
-    first-bits-requires
+    parent-requires
     loop-less
     loop-again
     same-length
