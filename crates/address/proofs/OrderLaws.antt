@@ -2,7 +2,7 @@
 use Prim.Native.Nat.{ℕ, _<_}
 use mathlib.Core.Path.{_≡_, refl, sym, subst, _∙_}
 use mathlib.Core.Bool.{Bool, true, false}
-use mathlib.Core.Logic.{_⊎_, inl, inr}
+use mathlib.Core.Logic.{inl, inr}
 use Rattle.address.specs.Choice.{if_then_else_}
 use native.Mathlib.Omega.{arith}
 use Rattle.address.specs.Order.{Order, done, _when_otherwise_, _then_, First, GivenExactly}

@@ -1,13 +1,13 @@
 -- What the functions on an address answer, also for zero, which is no address: there document 01 is silent, and bit length, depth and
 -- parent are 0.
-use Prim.Native.Nat.{ℕ, _+_}
+use Prim.Native.Nat.{ℕ}
 use mathlib.Core.Bool.{Bool, true, false, _&&_}
 use mathlib.Core.List.{List, [], _∷_}
 use lib.ListN.{length}
 use lib.Dec.{eqb, ltb}
 use Rattle.address.specs.Choice.{if_then_else_}
 use Rattle.address.specs.Bits.{Bit, O, I, bits}
-use Rattle.address.specs.Steps.{Step, child, steps, addressOf}
+use Rattle.address.specs.Steps.{Step, steps, addressOf}
 pub use Rattle.address.specs.declared.Address.{Address}
 pub use Rattle.address.specs.declared.Made.{Made}
 pub use Rattle.address.specs.declared.Made.the-variants.{Valid, Refused}

@@ -1,24 +1,24 @@
 -- The next hop in terms of steps, which is what a tree is made of: deliver at the node itself; up where the node is not on the destination's
 -- way; and toward the child that the destination's next step names, or refusal 7 where that child is not given. Assumes nothing.
-use mathlib.Core.Path.{_≡_, refl, sym, ap, _∙_, subst}
+use mathlib.Core.Path.{_≡_, refl, sym, ap, _∙_}
 use mathlib.Core.Bool.{Bool, true, false}
-use mathlib.Core.List.{List, [], _∷_, _++_, append-assoc}
+use mathlib.Core.List.{List, [], _∷_, _++_}
 use Prim.Native.Nat.{ℕ, suc, _+_, _<_, _≤_}
 use native.Mathlib.Omega.{arith}
 use lib.ListN.{length, length-append}
 use lib.Seq.{append-snoc}
 use Rattle.address.specs.declared.Kind.{Kind}
-use Rattle.address.specs.Bits.{bits, number}
+use Rattle.address.specs.Bits.{bits}
 use Rattle.address.specs.Steps.{Step, child, steps, addressOf, stepBits}
-use Rattle.address.specs.Address.{bitLength, isHost, parent}
+use Rattle.address.specs.Address.{isHost, parent}
 use Rattle.address.specs.Numbers.{IsAddress}
 use Rattle.address.specs.Ancestors.{AncestorOrSelf}
-use Rattle.search.specs.Search.{lookedAt, isPrefix}
+use Rattle.search.specs.Search.{isPrefix}
 use Rattle.address.proofs.Ancestors.{number-child, host-ancestorOrSelf, steps-injective}
 use Rattle.search.proofs.Prefixes.{lookedAt-step, kindLooked-stepBits, indexLooked-stepBits, ancestorOrSelf-prefix, isPrefix-ancestorOrSelf}
 use Rattle.node.specs.Node.{addressIn, count, isGood}
 use Rattle.node.specs.declared.Node.{Node}
-use Rattle.forward.specs.Forward.{HopAnswer, deliverAt, upTo, downTo, refusedHop, toward, nextHop}
+use Rattle.forward.specs.Forward.{deliverAt, upTo, downTo, refusedHop, toward, nextHop}
 use Rattle.forward.proofs.Rules.{nextHop-same, nextHop-host, nextHop-elsewhere, nextHop-below, toward-given, toward-absent}
 
 -- whoever is on the way to another address has a next step on it

@@ -3,14 +3,14 @@
 use mathlib.Core.Path.{_≡_, refl, sym, ap, _∙_}
 use mathlib.Core.Bool.{true, false}
 use mathlib.Core.List.{List, [], _∷_, _++_}
-use Prim.Native.Nat.{ℕ, _+_, _*_, _-_, _%_, _^_, _<_, _≤_}
+use Prim.Native.Nat.{ℕ, _+_, _%_, _<_}
 use native.Mathlib.Omega.{arith}
 use lib.Dec.{eqb}
-use lib.ListN.{length, drop, replicate, length-append, length-replicate}
+use lib.ListN.{length, drop, replicate, length-append}
 use Rattle.address.specs.declared.Kind.{Kind}
 use Rattle.address.specs.declared.Kind.the-variants.{Router, Host}
 use Rattle.address.specs.Choice.{if_then_else_}
-use Rattle.address.specs.Bits.{Bit, O, I, bits, number, digit}
+use Rattle.address.specs.Bits.{Bit, I, bits, number, digit}
 use Rattle.address.specs.Steps.{Step, child, steps, addressOf, stepBits, lastOf}
 use Rattle.address.specs.Address.{bitLength, isHost}
 use Rattle.address.specs.Numbers.{IsAddress}

@@ -4,11 +4,10 @@ use mathlib.Core.Path.{_≡_, refl, sym, ap, _∙_}
 use mathlib.Core.Bool.{Bool, true, false, not}
 use mathlib.Core.Logic.{_⊎_, inl, inr}
 use mathlib.Core.List.{List, [], _∷_, _++_}
-use Prim.Native.Nat.{ℕ, zero, suc, _+_, _^_, _<_, _≤_}
+use Prim.Native.Nat.{ℕ, zero, suc, _+_, _^_, _<_}
 use native.Mathlib.Omega.{arith}
 use borrow.Author.Tests.{eqb-true, eqb-false, ltb-true, ltb-false}
 use lib.Dec.{eqb, ltb}
-use lib.ListN.{length, length-append}
 use Rattle.address.specs.Choice.{if_then_else_}
 use Rattle.address.specs.Bits.{Bit, bits, number as value, longest}
 use Rattle.address.specs.Steps.{Step, child, steps}
@@ -16,19 +15,17 @@ use Rattle.address.specs.Address.{isHost}
 use Rattle.address.specs.Numbers.{IsAddress}
 use Rattle.address.specs.Ancestors.{AncestorOrSelf}
 use Rattle.address.specs.Order.{First}
-use Rattle.address.specs.declared.Kind.{Kind}
 use Rattle.address.proofs.OrderLaws.{given-exactly}
 use Rattle.address.proofs.Ancestors.{host-ancestorOrSelf}
 use Rattle.search.specs.Search.{isPrefix, kindLooked, indexLooked}
 use Rattle.search.proofs.Prefixes.{isPrefix-ancestorOrSelf, ancestorOrSelf-prefix}
 use Rattle.node.specs.Node.{addressIn, count, isGood}
-use Rattle.node.specs.Refusals.{IsGood, IsBad}
 use Rattle.node.specs.declared.Node.{Node}
 use Rattle.node.proofs.Children.{address-good}
 use Rattle.node.proofs.RefusalLaws.{isGood-record, bad-record, not-bad}
-use Rattle.forward.specs.Forward.{Action, deliver, toParent, toChild, stop, HopAnswer, deliverAt, upTo, downTo, refusedHop, toward, rules, nextHop}
+use Rattle.forward.specs.Forward.{Action, deliver, toParent, toChild, stop, HopAnswer, refusedHop, toward, rules, nextHop}
 use Rattle.forward.specs.Refusals.{ChildNotGiven, hopOrder, HopRefusals}
-use Rattle.forward.specs.BySteps.{RulesBySteps, BySteps}
+use Rattle.forward.specs.BySteps.{BySteps}
 use Rattle.forward.proofs.Rules.{nextHop-bad, nextHop-zero}
 use Rattle.forward.proofs.Hops.{next-step, nextHop-deliver, nextHop-up, nextHop-down, nextHop-stop}
 
@@ -127,7 +124,7 @@ right-hop n d =
     (right-if (not (isPrefix (bits (addressIn n)) (bits d))) _ _ (right-gone toParent _ (λ s. differ cc))
     (right-toward n _)))))
 
-pub hop-refusals : HopRefusals
+pub hop-refusals : HopRefusals nextHop
 hop-refusals = record {
   given = λ n d f h. given-exactly (hopOrder n d) (first-hop n d f h);
   beside = λ n d. right-hop n d .0;

@@ -1,5 +1,5 @@
 -- What the next hop answers, one law for each exit of the code. Assumes nothing.
-use mathlib.Core.Path.{_≡_, refl, sym, ap, _∙_}
+use mathlib.Core.Path.{_≡_, _∙_}
 use mathlib.Core.Bool.{true, false}
 use Prim.Native.Nat.{ℕ, _<_, _≤_}
 use borrow.Author.Tests.{eq-eqb, ne-eqb, lt-ltb, le-ltb}
@@ -10,7 +10,7 @@ use Rattle.address.specs.Address.{bitLength, isHost, parent}
 use Rattle.search.specs.Search.{lookedAt, isPrefix, kindLooked, indexLooked}
 use Rattle.node.specs.Node.{addressIn, count, isGood}
 use Rattle.node.specs.declared.Node.{Node}
-use Rattle.forward.specs.Forward.{HopAnswer, deliverAt, upTo, downTo, refusedHop, toward, rules, nextHop}
+use Rattle.forward.specs.Forward.{deliverAt, upTo, downTo, refusedHop, toward, rules, nextHop}
 
 module _ (n : Node) (d : ℕ) where
   pub nextHop-bad : isGood n ≡ false → nextHop n d ≡ refusedHop 1

@@ -10,7 +10,7 @@ use Rattle.address.specs.declared.Kind.{Kind}
 use Rattle.node.specs.Node.{addressIn, count}
 use Rattle.node.specs.Refusals.{IsBad}
 use Rattle.node.specs.declared.Node.{Node}
-use Rattle.forward.specs.Forward.{Action, stop, refusedHop, nextHop}
+use Rattle.forward.specs.Forward.{HopAnswer, stop, refusedHop}
 
 -- "destination below this node, child not given": the destination's steps go on behind the node's, and the index of the next one is not below
 -- the node's count of that kind
@@ -31,9 +31,10 @@ hopOrder n d =
     otherwise 7 when ChildNotGiven n d
     otherwise done
 
-pub record HopRefusals : Type 0 where
-  pub given : (n : Node) (d : ℕ) → addressIn n < 2 ^ longest → d < 2 ^ longest → GivenExactly (hopOrder n d) (nextHop n d .refusal)
+-- a statement of any rule for the next hop from an address, so that a wrong one can be refuted by it
+pub record HopRefusals (rule : Node → ℕ → HopAnswer) : Type 0 where
+  pub given : (n : Node) (d : ℕ) → addressIn n < 2 ^ longest → d < 2 ^ longest → GivenExactly (hopOrder n d) (rule n d .refusal)
   -- "With any refusal .. every other number returned beside its own are 0": no node is named
-  pub beside : (n : Node) (d : ℕ) → (nextHop n d .refusal ≡ 0 → ⊥) → nextHop n d ≡ refusedHop (nextHop n d .refusal)
+  pub beside : (n : Node) (d : ℕ) → (rule n d .refusal ≡ 0 → ⊥) → rule n d ≡ refusedHop (rule n d .refusal)
   -- and without one the packet does not stop
-  pub without : (n : Node) (d : ℕ) → nextHop n d .refusal ≡ 0 → nextHop n d .action ≡ stop → ⊥
+  pub without : (n : Node) (d : ℕ) → rule n d .refusal ≡ 0 → rule n d .action ≡ stop → ⊥

@@ -1,6 +1,6 @@
 -- What `isGood` and `childOf` come to, one law for each answer: the tests that passed on the way, and the one that decides. A child's number is
 -- that of one step more.
-use mathlib.Core.Path.{_≡_, sym, ap, ap₂, _∙_}
+use mathlib.Core.Path.{_≡_, sym, ap₂, _∙_}
 use mathlib.Core.Logic.{⊎-elim}
 use mathlib.Core.Bool.{true, false}
 use Prim.Native.Nat.{ℕ, _+_, _*_, _-_, _%_, _^_, _≤_, _<_}

@@ -1,18 +1,16 @@
 -- What is given is a child: one step more than the node. Assumes nothing.
 use mathlib.Core.Path.{_≡_, refl, sym, ap, _∙_}
 use mathlib.Core.Bool.{true}
-use mathlib.Core.Logic.{_⊎_, inl, inr, ⊎-elim}
-use mathlib.Core.List.{_∷_, _++_}
-use Prim.Native.Nat.{ℕ, suc, _+_, _^_, _<_}
+use mathlib.Core.Logic.{⊎-elim}
 use native.Mathlib.Omega.{arith}
 use lib.ListN.{length}
-use Rattle.address.specs.Bits.{bits, number, longest}
-use Rattle.address.specs.Steps.{Step, child, steps, stepBits, spelled}
-use Rattle.address.specs.Address.{depth, parent}
+use Rattle.address.specs.Bits.{number}
+use Rattle.address.specs.Steps.{child, spelled}
+use Rattle.address.specs.Address.{depth}
 use Rattle.address.specs.Numbers.{IsAddress}
 use Rattle.address.specs.declared.Kind.{Kind}
 use Rattle.address.proofs.Steps.{spelled-steps}
-use Rattle.node.specs.Node.{Node, Given, addressIn, count, raised, isGood, childBits, refuseChild, childOf}
+use Rattle.node.specs.Node.{Node, Given, addressIn, isGood, childBits, refuseChild, childOf}
 use Rattle.node.specs.Children.{IsChild, GivesChildren}
 use Rattle.node.proofs.Children.{address-good, addressIn-raised, MayGive, mayGive, childOf-cases, childOf-given, isGood-raised, steps-child, address-child, parent-child}
 

@@ -3,4 +3,5 @@ pub mod ChildLaws
 pub mod Children
 pub mod RefusalLaws
 pub mod GivenChildren
+pub mod WrongRules
 pub mod Promises

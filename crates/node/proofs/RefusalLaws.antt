@@ -3,7 +3,7 @@
 use mathlib.Core.Path.{_≡_, refl, sym, ap, _∙_}
 use mathlib.Core.Bool.{Bool, true, false}
 use mathlib.Core.Logic.{_⊎_, inl, inr, ⊎-elim}
-use Prim.Native.Nat.{ℕ, suc, _+_, _-_, _<_, _≤_}
+use Prim.Native.Nat.{ℕ, _-_, _≤_}
 use native.Mathlib.Omega.{arith}
 use lib.Dec.{leb}
 use borrow.Author.Tests.{eq-eqb, leb-true, leb-false}
@@ -87,7 +87,7 @@ first-child n kind = go (isGood n) refl (isHost (addressIn n)) refl (leb (childL
         let fits = leb-true (childLength n kind) longest short in
         inr (not-bad n g, inr (isHost-no-host (addressIn n) i, inr (λ long. omega arith, number (childOf-done n kind g i fits))))
 
-pub child-refusals : ChildRefusals
+pub child-refusals : ChildRefusals childOf
 unfolding refuseChild
 child-refusals = record {
   given = λ n kind. given-exactly (childOrder n kind) (first-child n kind);

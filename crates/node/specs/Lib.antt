@@ -2,3 +2,4 @@
 pub mod Node
 pub mod Refusals
 pub mod Children
+pub mod WrongRules

@@ -1,14 +1,14 @@
 -- A node's record, and the request for a child. "A node record is its address with two counts: router children and host children given so
 -- far."
-use Prim.Native.Nat.{ℕ, suc, _+_, _-_}
-use mathlib.Core.Bool.{Bool, true, false, not, _&&_}
+use Prim.Native.Nat.{ℕ, _+_, _-_}
+use mathlib.Core.Bool.{Bool, false, not, _&&_}
 use mathlib.Core.List.{List, _++_}
 use lib.ListN.{length}
 use lib.Dec.{eqb, leb, ltb}
 use Rattle.address.specs.Choice.{if_then_else_}
 use Rattle.address.specs.Bits.{Bit, bits, number, longest}
 use Rattle.address.specs.Address.{bitLength, isHost}
-use Rattle.address.specs.Steps.{Step, child, stepBits}
+use Rattle.address.specs.Steps.{child, stepBits}
 use Rattle.address.specs.declared.Address.{Address}
 use Rattle.address.specs.declared.Kind.{Kind}
 use Rattle.address.specs.declared.Kind.the-variants.{Router, Host}

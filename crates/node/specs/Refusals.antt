@@ -9,7 +9,7 @@ use Rattle.address.specs.Address.{bitLength}
 use Rattle.address.specs.Kinds.{IsRoot, IsRouter, IsHost}
 use Rattle.address.specs.Order.{Order, done, _when_otherwise_, GivenExactly}
 use Rattle.address.specs.declared.Kind.{Kind}
-use Rattle.node.specs.Node.{Node, addressIn, count, raised, isGood, childOf}
+use Rattle.node.specs.Node.{Node, Given, addressIn, count, raised, isGood}
 
 -- "For the root or a router of n bits each count is 0 to 64-n. For a host both are 0."
 pub data IsGood (n : Node) : Type 0 where
@@ -40,9 +40,10 @@ childOrder n kind =
 abbrev pub GoodRecords : Type 0
 GoodRecords = (n : Node) → (isGood n ≡ true) ↔ IsGood n
 
-pub record ChildRefusals : Type 0 where
-  pub given : (n : Node) (kind : Kind) → GivenExactly (childOrder n kind) (childOf n kind .refusal)
+-- a statement of any rule for a child, so that a wrong one can be refuted by it
+pub record ChildRefusals (rule : Node → Kind → Given) : Type 0 where
+  pub given : (n : Node) (kind : Kind) → GivenExactly (childOrder n kind) (rule n kind .refusal)
   -- "With any refusal the address .. and every other number returned beside its own are 0, a returned record is the one handed in"
-  pub beside : (n : Node) (kind : Kind) → (childOf n kind .refusal ≡ 0 → ⊥) → (childOf n kind .child .number ≡ 0) × (childOf n kind .node ≡ n)
+  pub beside : (n : Node) (kind : Kind) → (rule n kind .refusal ≡ 0 → ⊥) → (rule n kind .child .number ≡ 0) × (rule n kind .node ≡ n)
   -- "the node hands itself back with one count raised"
-  pub without : (n : Node) (kind : Kind) → childOf n kind .refusal ≡ 0 → childOf n kind .node ≡ raised kind n
+  pub without : (n : Node) (kind : Kind) → rule n kind .refusal ≡ 0 → rule n kind .node ≡ raised kind n

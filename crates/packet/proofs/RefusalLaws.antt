@@ -2,7 +2,7 @@
 -- is read those of the next hop for the address, of which only 7 is left. Assumes nothing.
 use mathlib.Core.Path.{_≡_, refl, sym, ap, ap₂, _∙_}
 use mathlib.Core.Bool.{Bool, true, false}
-use mathlib.Core.Logic.{_⊎_, inl, inr}
+use mathlib.Core.Logic.{inl, inr}
 use mathlib.Core.List.{List}
 use Prim.Native.Nat.{ℕ, zero, suc, _^_, _<_}
 use native.Mathlib.Omega.{arith}
@@ -12,12 +12,11 @@ use Rattle.address.specs.Numbers.{IsAddress}
 use Rattle.address.specs.Order.{done, _when_otherwise_, _then_, First}
 use Rattle.address.proofs.OrderLaws.{given-exactly, Numbered, first-then}
 use Rattle.octets.specs.Octets.{AreOctets}
-use Rattle.header.specs.Header.{HeaderAnswer, reading, found, refusedHeader}
+use Rattle.header.specs.Header.{reading, found, refusedHeader}
 use Rattle.header.specs.Refusals.{readingOrder}
 use Rattle.header.proofs.RefusalLaws.{first-reading, header-read-refusals}
 use Rattle.header.proofs.Demand2.{header-read}
 use Rattle.node.specs.Node.{addressIn, isGood}
-use Rattle.node.specs.Refusals.{IsBad}
 use Rattle.node.specs.declared.Node.{Node}
 use Rattle.node.proofs.RefusalLaws.{bad-record, not-bad}
 use Rattle.forward.specs.Forward.{HopAnswer, refusedHop, nextHop}
@@ -83,7 +82,7 @@ first-packet n p f are = go (isGood n) refl
           (numbered p) (first-reading p) (λ e. first-address n p g f are e) (λ e. number (by-address n p g e)) (λ h. by-reading n p g h),
     )
 
-pub packet-refusals : PacketRefusals
+pub packet-refusals : PacketRefusals packetHop
 packet-refusals = record {
   given = λ n p f are. given-exactly (packetOrder n p) (first-packet n p f are);
   beside = λ n p h. go-beside n p h (isGood n) refl;

@@ -11,9 +11,8 @@ use Rattle.header.specs.Refusals.{readingOrder}
 use Rattle.node.specs.Node.{addressIn}
 use Rattle.node.specs.Refusals.{IsBad}
 use Rattle.node.specs.declared.Node.{Node}
-use Rattle.forward.specs.Forward.{refusedHop, nextHop}
+use Rattle.forward.specs.Forward.{HopAnswer, refusedHop, nextHop}
 use Rattle.forward.specs.Refusals.{ChildNotGiven}
-use Rattle.packet.specs.Packet.{packetHop}
 
 abbrev pub packetOrder : Node → List ℕ → Order
 packetOrder n p =
@@ -24,9 +23,10 @@ packetOrder n p =
     -- "destination below this node, child not given", for the address read
     then (7 when ChildNotGiven n (reading p .address) otherwise done)
 
-pub record PacketRefusals : Type 0 where
-  pub given : (n : Node) (p : List ℕ) → addressIn n < 2 ^ longest → AreOctets p → GivenExactly (packetOrder n p) (packetHop n p .refusal)
+-- a statement of any rule for the next hop from octets, so that a wrong one can be refuted by it
+pub record PacketRefusals (rule : Node → List ℕ → HopAnswer) : Type 0 where
+  pub given : (n : Node) (p : List ℕ) → addressIn n < 2 ^ longest → AreOctets p → GivenExactly (packetOrder n p) (rule n p .refusal)
   -- "With any refusal .. every other number returned beside its own are 0": no node is named
-  pub beside : (n : Node) (p : List ℕ) → (packetHop n p .refusal ≡ 0 → ⊥) → packetHop n p ≡ refusedHop (packetHop n p .refusal)
+  pub beside : (n : Node) (p : List ℕ) → (rule n p .refusal ≡ 0 → ⊥) → rule n p ≡ refusedHop (rule n p .refusal)
   -- "From a packet it is the answer for the address read."
-  pub without : (n : Node) (p : List ℕ) → packetHop n p .refusal ≡ 0 → (reading p .refusal ≡ 0) × (packetHop n p ≡ nextHop n (reading p .address))
+  pub without : (n : Node) (p : List ℕ) → rule n p .refusal ≡ 0 → (reading p .refusal ≡ 0) × (rule n p ≡ nextHop n (reading p .address))

@@ -1,12 +1,10 @@
 -- The tests on steps hold exactly of what they are named after, by the laws of each. Assumes nothing.
-use mathlib.Core.Path.{_≡_, sym, subst, _∙_}
-use mathlib.Core.Bool.{Bool, true, false}
+use mathlib.Core.Path.{_≡_, subst}
+use mathlib.Core.Bool.{true}
 use mathlib.Core.List.{List}
-use Prim.Native.Nat.{ℕ}
-use native.Mathlib.Omega.{arith}
 use Rattle.address.specs.Steps.{Step}
 use Rattle.address.specs.declared.Kind.{Kind}
-use Rattle.route.specs.Path.{sameKind, sameSteps, isAncestorOrSelf}
+use Rattle.route.specs.Path.{sameKind, sameSteps}
 use Rattle.route.specs.Exactly.{PathWords}
 use Rattle.route.proofs.Turning.{sameKind-refl, sameKind-true, sameSteps-refl, sameSteps-true, isAncestorOrSelf-true, isAncestorOrSelf-ancestorOrSelf}
 

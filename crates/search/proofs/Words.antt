@@ -1,12 +1,11 @@
 -- The words of the search mean what the statements say, by the laws of each. Assumes nothing.
 use mathlib.Core.Path.{_≡_, refl, sym, ap, subst}
 use mathlib.Core.Bool.{Bool, true, false}
-use mathlib.Core.Logic.{_⊎_, inl, inr, _↔_}
+use mathlib.Core.Logic.{_⊎_, inl, inr}
 use mathlib.Core.List.{List, [], _∷_, _++_}
 use Prim.Native.Nat.{ℕ, suc}
-use native.Mathlib.Omega.{arith}
 use lib.ListN.{replicate}
-use Rattle.address.specs.Bits.{Bit, O, I, bits}
+use Rattle.address.specs.Bits.{Bit, O, I}
 use Rattle.address.specs.Address.{isHost}
 use Rattle.address.specs.Kinds.{IsRoot, IsRouter}
 use Rattle.address.proofs.KindLaws.{kinds, isHost-true}

@@ -1,17 +1,14 @@
 -- The nodes of a grown tree are the root and the addresses that the replies give: a request keeps the addresses of the tree, since the record
 -- handed back keeps its own, and puts a child's behind them where it is given. Assumes nothing.
 use mathlib.Core.Path.{_≡_, refl, sym, ap, _∙_}
-use mathlib.Core.Bool.{Bool, true, false}
-use mathlib.Core.List.{List, [], _∷_, _++_, append-nil, append-assoc, map, map-append}
+use mathlib.Core.List.{List, [], _∷_, _++_, append-nil, append-assoc, map-append}
 use Prim.Native.Nat.{ℕ, zero, suc}
 use native.Mathlib.Omega.{arith}
 use borrow.Author.Tests.{ne-eqb}
 use lib.Dec.{eqb}
 use Rattle.address.specs.Choice.{if_then_else_}
 use Rattle.address.specs.Bits.{root}
-use Rattle.address.specs.declared.Kind.{Kind}
 use Rattle.node.specs.Node.{addressIn, fresh, childOf}
-use Rattle.node.specs.declared.Node.{Node}
 use Rattle.node.specs.declared.Given.{Given}
 use Rattle.node.proofs.GivenChildren.{gives-children}
 use Rattle.tree.specs.Tree.{Request, request, Tree, bareRoot, Record, standing, absent, recordOf, replaced, withChild, answered, askedOf, ask, grow, grown, addresses, Reply, replied, nobody, givenBy, givenIn}

@@ -1,5 +1,4 @@
--- The wrong rules for a child are refuted, each through the clause for which document 01 excludes it, at a tree that is computed. Under the
--- last two every tree is the bare root, of which demand 3 is true: what excludes them is the promise, from which they differ at that root.
+-- The wrong rules for a child are refuted, each through the clause for which document 01 excludes it, at a tree that is computed.
 use Prim.Native.Nat.{ℕ, zero, suc, _+_, _≤_}
 use mathlib.Core.Path.{_≡_, refl, ap, _∙_}
 use mathlib.Core.List.{List, [], _∷_, _++_, List·Memᴰ, List·Memᴰ·head, List·Memᴰ·tail}
@@ -12,21 +11,18 @@ use Rattle.address.specs.Steps.{stepBits, lastOf}
 use Rattle.address.specs.Address.{bitLength, isHost, endsInOne}
 use Rattle.octets.specs.Octets.{octets, value, joined}
 use Rattle.search.specs.Search.{lookedAt, isPrefix, sameBit, kindLooked, indexLooked}
-use Rattle.address.specs.declared.Kind.{Kind}
 use Rattle.address.specs.declared.Kind.the-variants.{Router, Host}
 use Rattle.header.specs.Header.{header, size, reading, startFault, inOrder, sizeTold, addressFault, sizeAllowed, zeroFault, addressOctets}
 use Rattle.node.specs.Node.{addressAt, fresh, count, raised, isGood, childBits, refuseChild, childOf}
 use Rattle.node.specs.declared.Node.{Node}
-use Rattle.node.specs.declared.Given.{Given}
 use Rattle.forward.specs.Forward.{nextHop, rules, toward}
 use Rattle.packet.specs.Packet.{packetHop}
-use Rattle.tree.specs.Tree.{Request, request, ChildRule, Tree, givenIn, givenBy, bareRoot, Record, standing, absent, recordOf, replaced, withChild}
+use Rattle.tree.specs.Tree.{Request, request, Tree, givenIn, givenBy, bareRoot, standing, recordOf, replaced, withChild}
 use Rattle.tree.specs.Tree.{answered, askedOf, ask, grow, grown, addresses, InTree}
 use Rattle.tree.specs.Way.{stoppedWith, fate, deliveredAt, stoppedAt, lostAt, Way, stopped, lost, IsPacket}
 use Rattle.tree.specs.Demand3.{Demand3}
-use Rattle.tree.specs.WrongChildren.{sameChild, oneCount, limitOnParent, refusesAll, rootAsHost}
+use Rattle.tree.specs.WrongChildren.{sameChild, sharedCount, limitOnParent}
 use Rattle.tree.proofs.Trees.{inTree-recordOf}
-use Rattle.tree.proofs.Growth.{recordOf-bareRoot, answered-refused}
 
 -- ---- what is opened to compute
 
@@ -48,9 +44,9 @@ forHops = tt
 
 -- ---- every child the same address: two routers asked of the root are both 10
 
-pub same-child-refuted : ((rs : List Request) → Demand3 sameChild packetHop rs) → ⊥
+pub sameChild-refuted : ((rs : List Request) → Demand3 sameChild packetHop rs) → ⊥
 unfolding forTrees sameChild childOf
-same-child-refuted h = h (request root Router ∷ request root Router ∷ []) .differ .1 .0 (List·Memᴰ·head refl)
+sameChild-refuted h = h (request root Router ∷ request root Router ∷ []) .differ .1 .0 (List·Memᴰ·head refl)
 
 -- ---- one count: a router and a host asked of the root are 10 and 111, and its count of routers is 2, so it passes a packet for 110 to nobody
 
@@ -70,20 +66,20 @@ other-than-110 (List·Memᴰ·head e) = omega arith
 other-than-110 (List·Memᴰ·tail (List·Memᴰ·head e)) = omega arith
 other-than-110 (List·Memᴰ·tail (List·Memᴰ·tail (List·Memᴰ·head e))) = omega arith
 
-one-count-absent : InTree 0b110 (grown oneCount routerThenHost) → ⊥
-unfolding forTrees oneCount
+one-count-absent : InTree 0b110 (grown sharedCount routerThenHost) → ⊥
+unfolding forTrees sharedCount
 one-count-absent i = other-than-110 i
 
-one-count-there : InTree root (grown oneCount routerThenHost)
-unfolding forTrees oneCount
+one-count-there : InTree root (grown sharedCount routerThenHost)
+unfolding forTrees sharedCount
 one-count-there = List·Memᴰ·head refl
 
-one-count-way : Way packetHop (grown oneCount routerThenHost) (header 0b110) root (root ∷ []) (lostAt root)
-unfolding forTrees forHops oneCount
+one-count-way : Way packetHop (grown sharedCount routerThenHost) (header 0b110) root (root ∷ []) (lostAt root)
+unfolding forTrees forHops sharedCount
 one-count-way = lost {x = 0b110} {n = record { address = addressAt root; routers = 2; hosts = 0 }} refl refl one-count-absent
 
-pub one-count-refuted : ((rs : List Request) → Demand3 oneCount packetHop rs) → ⊥
-one-count-refuted h =
+pub sharedCount-refuted : ((rs : List Request) → Demand3 sharedCount packetHop rs) → ⊥
+sharedCount-refuted h =
     let stops = h routerThenHost .absence root 0b110 (header 0b110) one-count-there one-count-absent packet-110 in
     let e : lostAt root ≡ stoppedAt 7 (stops .0) = stops .1 .theWay .only (root ∷ []) (lostAt root) one-count-way .1 in
     let z : _≡_ {A = ℕ} 0 1 = cc in
@@ -132,63 +128,11 @@ packet-root = record {
   reads = refl;
 }
 
-pub limit-on-parent-refuted : ((rs : List Request) → Demand3 limitOnParent packetHop rs) → ⊥
-limit-on-parent-refuted h =
+pub limitOnParent-refuted : ((rs : List Request) → Demand3 limitOnParent packetHop rs) → ⊥
+limitOnParent-refuted h =
     let there = inTree-recordOf root (rootWith 64) (grown limitOnParent hosts64) recordOf-hosts64 in
     let arrives = h hosts64 .arrival root root (header root) there there packet-root in
     let e : stoppedAt 1 root ≡ deliveredAt root root =
     arrives .theWay .only (root ∷ []) (stoppedAt 1 root) (stopped recordOf-hosts64 fate-hosts64) .1 in
     let z : _≡_ {A = ℕ} 0 1 = cc in
     omega arith
-
--- ---- whatever refuses at the bare root
-
-module _ (rule : ChildRule) (k : ℕ) (refuses : (kind : Kind) → rule (fresh root) kind ≡ refuseChild (suc k) (fresh root)) where
-  ask-refusing : (r : Request) → ask rule bareRoot r .tree ≡ bareRoot
-  unfolding ask askedOf
-  ask-refusing (request a kind) = go (recordOf a bareRoot) refl
-    where
-      go : (x : Record) → recordOf a bareRoot ≡ x → askedOf rule x a kind bareRoot .tree ≡ bareRoot
-      go (standing n) e =
-          let refused : rule n kind ≡ refuseChild (suc k) n = cc (recordOf-bareRoot a n e, refuses kind) in
-          rw refused (answered-refused bareRoot a n e k)
-      go absent e = refl
-
-  grown-refusing : (rs : List Request) → grown rule rs ≡ bareRoot
-  unfolding grown grow
-  grown-refusing [] = refl
-  grown-refusing (r ∷ rs) = ap (λ (t : Tree). grow rule t rs .tree) (ask-refusing r) ∙ grown-refusing rs
-
-  differs : childOf (fresh root) Router .refusal ≡ 0 → rule (fresh root) Router ≡ childOf (fresh root) Router → ⊥
-  unfolding refuseChild
-  differs given e = let f : suc k ≡ 0 = cc (ap (λ (g : Given). g .refusal) (refuses Router)) in omega arith
-
-given-root : childOf (fresh root) Router .refusal ≡ 0
-unfolding forTrees childOf
-given-root = refl
-
-refusesAll-root : (kind : Kind) → refusesAll (fresh root) kind ≡ refuseChild 3 (fresh root)
-unfolding refusesAll
-refusesAll-root kind = refl
-
-rootAsHost-root : (kind : Kind) → rootAsHost (fresh root) kind ≡ refuseChild 2 (fresh root)
-unfolding forTrees rootAsHost
-rootAsHost-root kind = refl
-
-pub grown-refusesAll : (rs : List Request) → grown refusesAll rs ≡ bareRoot
-grown-refusesAll = grown-refusing refusesAll 2 refusesAll-root
-
-pub grown-rootAsHost : (rs : List Request) → grown rootAsHost rs ≡ bareRoot
-grown-rootAsHost = grown-refusing rootAsHost 1 rootAsHost-root
-
-pub refuses-all-differs : refusesAll (fresh root) Router ≡ childOf (fresh root) Router → ⊥
-refuses-all-differs = differs refusesAll 2 refusesAll-root given-root
-
-pub root-as-host-differs : rootAsHost (fresh root) Router ≡ childOf (fresh root) Router → ⊥
-root-as-host-differs = differs rootAsHost 1 rootAsHost-root given-root
-
-pub refuses-all-refuted : refusesAll ≡ childOf → ⊥
-refuses-all-refuted e = refuses-all-differs (ap (λ (rule : ChildRule). rule (fresh root) Router) e)
-
-pub root-as-host-refuted : rootAsHost ≡ childOf → ⊥
-root-as-host-refuted e = root-as-host-differs (ap (λ (rule : ChildRule). rule (fresh root) Router) e)

@@ -7,7 +7,7 @@ use mathlib.Core.List.{List, [], _∷_}
 use Rattle.octets.specs.Octets.{AreOctets}
 use Rattle.header.specs.Header.{reading, found}
 use Rattle.node.specs.declared.Node.{Node}
-use Rattle.forward.specs.Forward.{Action, deliver, toParent, toChild, stop, HopAnswer}
+use Rattle.forward.specs.Forward.{deliver, toParent, toChild, stop, HopAnswer}
 use Rattle.tree.specs.Tree.{Tree, standing, recordOf, InTree}
 
 -- a rule for the next hop: what a record answers for some octets

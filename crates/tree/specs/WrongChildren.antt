@@ -1,4 +1,5 @@
--- Wrong rules for a child, which demand 3 or the promise of `child` must exclude.
+-- Wrong rules for a child, which demand 3 must exclude. Those that refuse wrongly leave it true, of the bare root: crates/node/specs/WrongRules.antt
+-- has them.
 use mathlib.Core.Bool.{not}
 use mathlib.Core.List.{_++_}
 use lib.ListN.{length}
@@ -6,7 +7,7 @@ use lib.Dec.{eqb, ltb}
 use Rattle.address.specs.Choice.{if_then_else_}
 use Rattle.address.specs.Bits.{bits, number, longest}
 use Rattle.address.specs.Steps.{child, stepBits}
-use Rattle.address.specs.Address.{bitLength, isHost, endsInOne}
+use Rattle.address.specs.Address.{bitLength, isHost}
 use Rattle.address.specs.declared.Kind.the-variants.{Router}
 use Rattle.node.specs.Node.{addressIn, addressAt, count, raised, isGood, childBits, refuseChild, childOf}
 use Rattle.tree.specs.Tree.{ChildRule}
@@ -18,8 +19,8 @@ sameChild n kind =
     else childOf n kind
 
 -- "using one count for both kinds": the count of routers counts every child, and a child of either kind takes its ones
-unfoldable pub oneCount : ChildRule
-oneCount n kind =
+unfoldable pub sharedCount : ChildRule
+sharedCount n kind =
     if not (isGood n) then refuseChild 1 n
     else if isHost (addressIn n) then refuseChild 2 n
     else if ltb longest (length (bits (addressIn n) ++ stepBits (child kind (count Router n)))) then refuseChild 3 n
@@ -35,16 +36,4 @@ limitOnParent n kind =
     if not (isGood n) then refuseChild 1 n
     else if isHost (addressIn n) then refuseChild 2 n
     else if ltb longest (bitLength (addressIn n)) then refuseChild 3 n
-    else record { node = raised kind n; child = addressAt (number (childBits n kind)); refusal = 0 }
-
--- "One that refuses everything"
-unfoldable pub refusesAll : ChildRule
-refusesAll n kind = refuseChild 3 n
-
--- "Calling the root a host because it ends in 1."
-unfoldable pub rootAsHost : ChildRule
-rootAsHost n kind =
-    if not (isGood n) then refuseChild 1 n
-    else if endsInOne (bits (addressIn n)) then refuseChild 2 n
-    else if ltb longest (length (childBits n kind)) then refuseChild 3 n
     else record { node = raised kind n; child = addressAt (number (childBits n kind)); refusal = 0 }
