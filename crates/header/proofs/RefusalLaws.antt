@@ -2,7 +2,7 @@
 -- passed on the way, gives that condition's number. Assumes nothing.
 use mathlib.Core.Path.{_≡_, refl, sym, ap, ap₂, subst, _∙_}
 use mathlib.Core.Bool.{Bool, true, false}
-use mathlib.Core.Logic.{_⊎_, inl, inr, _↔_, Dec·and, Dec·not, Dec·not-not}
+use mathlib.Core.Logic.{_⊎_, inl, inr, _↔_, Dec·and, Dec·not}
 use mathlib.Core.List.{List, [], _∷_, _++_}
 use Prim.Native.Nat.{ℕ, zero, suc, _+_, _-_, _/_, _%_, _≤_, _<_}
 use native.Mathlib.Decide.{ℕ-discrete, decLe, decLt, map-dec}
@@ -16,7 +16,7 @@ use Rattle.address.specs.Order.{First}
 use Rattle.address.proofs.OrderLaws.{given-exactly}
 use Rattle.octets.specs.Octets.{value, refuseWriting, write}
 use Rattle.octets.proofs.Correspondence.{value-zero, value-zeros}
-use Rattle.octets.proofs.Decided.{decided}
+use Rattle.octets.proofs.Decided.{decided, one-of, holds}
 use Rattle.octets.proofs.LentLaws.{refusal-refuseWriting, refusal-write, Outcome, outcome-leaves, outcome-writes}
 use Rattle.header.specs.Header.{unit, IsSize, sizeAllowed, size, header, place, writing, HeaderAnswer, reading, refusedHeader, found, fixedOctets, pageOctet, criticalPattern, routingType, inOrder, startFault, isPageOctet, hasCriticalPattern, isRoutingType, sizeTold, addressOctets, zeroFault, addressFault}
 use Rattle.header.specs.Refusals.{writingOrder, HeaderWriteRefusals, octetAt, OtherTopBits, sizeSaid, FirstZeros, sizedOrder, readingOrder, Accepted, HeaderReadRefusals}
@@ -95,18 +95,6 @@ module _ (s : ℕ) (os : List ℕ) where
       go (yes e) = rw (eq-eqb s unit e, ne-eqb (value os) 0 (one e))
       go (no n) = rw (ne-eqb s unit n, ne-eqb (value (take unit os)) 0 (more n))
 
-otherTopBits : (o : ℕ) → Dec (OtherTopBits o)
-otherTopBits o = go (decLt o 0b10000000) (decLe 0b10100000 o)
-  where
-    neither : (o < 0b10000000 → ⊥) → (0b10100000 ≤ o → ⊥) → OtherTopBits o → ⊥
-    neither below above (inl h) = below h
-    neither below above (inr h) = above h
-
-    go : Dec (o < 0b10000000) → Dec (0b10100000 ≤ o) → Dec (OtherTopBits o)
-    go (yes h) d = yes (inl h)
-    go (no n) (yes h) = yes (inr h)
-    go (no n) (no m) = no (neither n m)
-
 other-wrong : (o : ℕ) → OtherTopBits o → o / 32 ≡ criticalPattern → ⊥
 other-wrong o (inl h) e = omega arith
 other-wrong o (inr h) e = omega arith
@@ -136,7 +124,7 @@ sizeAllowed-false {s} some other = go (sizeAllowed s) refl
 first-sized : (s : ℕ) (p : List ℕ) → 0 < s → First (sizedOrder s p) (addressFault s p)
 first-sized s p some =
     decided (Dec·not (isSize s some)) (λ other. addressFault-size s p (sizeAllowed-false some other)) λ size.
-    let allowed = size-sizeAllowed (Dec·not-not (isSize s some) .0 size) in
+    let allowed = size-sizeAllowed (holds (isSize s some) size) in
     let h : unit ≤ s = sizeAllowed-ge allowed some in
     decided (decLt (length p) (fixedOctets + s)) (λ short. addressFault-short s p allowed short) λ long.
     let room : fixedOctets + s ≤ length p = omega arith in
@@ -152,9 +140,6 @@ first-sized s p some =
     ∙ zeroFault-right s os
     (λ e z. one (e, first .0 (sym (whole e) ∙ z)))
     (λ ne z. more (omega arith, first .0 z))
-
-is : {m n : ℕ} → ((m ≡ n → ⊥) → ⊥) → m ≡ n
-is {m} {n} h = Dec·not-not (ℕ-discrete m n) .0 h
 
 module _ (p : List ℕ) where
   by-start : {n : ℕ} → startFault p ≡ suc n → reading p .refusal ≡ suc n
@@ -174,17 +159,19 @@ first-reading p =
     decided (decLe (length p) 0) (λ h. by-start p (inOrder-absent isPageOctet later p 0 h)) λ there.
     decided (Dec·not (ℕ-discrete (octetAt 0 p) 0xF1))
     (λ wrong. by-start p (inOrder-wrong isPageOctet later p 0 (omega arith) (ne-eqb (octetAt 0 p) pageOctet wrong))) λ first.
-    let page = startFault-page p (omega arith) (is first) in
+    let right = holds (ℕ-discrete (octetAt 0 p) 0xF1) first in
+    let page = startFault-page p (omega arith) right in
     decided (decLe (length p) 1) (λ h. by-start p (page ∙ inOrder-absent hasCriticalPattern (isRoutingType ∷ []) p 1 h)) λ there.
-    decided (otherTopBits (octetAt 1 p))
+    decided (one-of (decLt (octetAt 1 p) 0b10000000) (decLe 0b10100000 (octetAt 1 p)))
     (λ other.
     let wrong = ne-eqb (octetAt 1 p / 32) criticalPattern (other-wrong (octetAt 1 p) other) in
     by-start p (page ∙ inOrder-wrong hasCriticalPattern (isRoutingType ∷ []) p 1 (omega arith) wrong)) λ second.
-    let critical = startFault-critical p (omega arith) (is first) (top-right p second .0) in
+    let critical = startFault-critical p (omega arith) right (top-right p second .0) in
     decided (decLe (length p) 2) (λ h. by-start p (critical ∙ inOrder-absent isRoutingType [] p 2 h)) λ there.
     decided (Dec·not (ℕ-discrete (octetAt 2 p) 15))
     (λ wrong. by-start p (critical ∙ inOrder-wrong isRoutingType [] p 2 (omega arith) (ne-eqb (octetAt 2 p) routingType wrong))) λ third.
-    let begun = critical ∙ inOrder-right isRoutingType [] p 2 (omega arith) (eq-eqb (octetAt 2 p) routingType (is third)) in
+    let type = eq-eqb (octetAt 2 p) routingType (holds (ℕ-discrete (octetAt 2 p) 15) third) in
+    let begun = critical ∙ inOrder-right isRoutingType [] p 2 (omega arith) type in
     let fault = by-address p begun ∙ ap (λ (k : ℕ). addressFault k p) (top-right p second .1) in
     subst (λ (n : ℕ). First (sizedOrder (sizeSaid p) p) n) (sym fault) (first-sized (sizeSaid p) p (omega arith))
 

@@ -1,7 +1,7 @@
 -- Demand 2 for the IPv6 form: the octets of an address give it back, and what reads as an address is its prefix and its octets. Assumes
 -- nothing.
 use mathlib.Core.Path.{_≡_, sym, ap, ap₂, _∙_}
-use mathlib.Core.Logic.{inl, inr, Dec·not-not}
+use mathlib.Core.Logic.{inl, inr}
 use mathlib.Core.List.{List, _++_}
 use Prim.Native.Nat.{ℕ, _^_, _<_, _≤_}
 use native.Mathlib.Nat.{pos-of-ne-zero}
@@ -16,6 +16,7 @@ use Rattle.address.specs.Numbers.{IsAddress}
 use Rattle.address.specs.Address.{validAddress, made}
 use Rattle.octets.specs.Octets.{octets, value, AreOctets, WriteEffect, wrote, write}
 use Rattle.octets.specs.declared.Written.{Written}
+use Rattle.octets.proofs.Decided.{holds}
 use Rattle.octets.proofs.OctetLaws.{octets-value, value-octets-of-lt, value-fits, drop-octets}
 use Rattle.ipv6.specs.Form.{half, whole, form, formWriting, formReading}
 use Rattle.ipv6.specs.Refusals.{formWritingOrder}
@@ -62,7 +63,7 @@ formWriting-right prefix a buffer z = go (form-write-refusals .given prefix a bu
     go (inl (other, f)) = absurd (omega arith)
     go (inr (eight, inl (e, f))) = absurd (omega arith)
     go (inr (eight, inr (some, inl (h, f)))) = absurd (omega arith)
-    go (inr (eight, inr (some, inr (room, f)))) = (Dec·not-not (ℕ-discrete (length prefix) half) .0 eight, pos-of-ne-zero some, omega arith)
+    go (inr (eight, inr (some, inr (room, f)))) = (holds (ℕ-discrete (length prefix) half) eight, pos-of-ne-zero some, omega arith)
 
 -- wherever a number was written, it reads back, and what stood behind it still does
 where-done : (prefix : List ℕ) (a : ℕ) (buffer : List ℕ) (n : ℕ) → a < 2 ^ longest → formWriting prefix a buffer .answer ≡ wrote n

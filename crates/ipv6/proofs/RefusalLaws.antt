@@ -2,7 +2,7 @@
 -- passed on the way, gives that condition's number. Assumes nothing.
 use mathlib.Core.Path.{_≡_, refl, sym, ap, _∙_}
 use mathlib.Core.Bool.{Bool, true, false, not, _&&_}
-use mathlib.Core.Logic.{_⊎_, inl, inr, Dec·not, Dec·not-not}
+use mathlib.Core.Logic.{_⊎_, inl, inr, Dec·not}
 use mathlib.Core.List.{List, _++_, List-discrete}
 use Prim.Native.Nat.{ℕ}
 use native.Mathlib.Decide.{ℕ-discrete, decLt}
@@ -15,14 +15,11 @@ use Rattle.address.specs.Address.{AddressAnswer, validAddress, refusedAddress}
 use Rattle.address.proofs.OrderLaws.{given-exactly}
 use Rattle.octets.specs.Octets.{value, same, WriteEffect, refuseWriting, write}
 use Rattle.octets.proofs.Correspondence.{value-zero, value-zeros}
-use Rattle.octets.proofs.Decided.{decided}
+use Rattle.octets.proofs.Decided.{decided, one-of, holds}
 use Rattle.octets.proofs.LentLaws.{refusal-refuseWriting, refusal-write, Outcome, outcome-leaves, outcome-writes}
 use Rattle.ipv6.specs.Form.{half, whole, form, formWriting, formReading}
 use Rattle.ipv6.specs.Refusals.{formWritingOrder, FormWriteRefusals, formReadingOrder, Accepted, FormReadRefusals}
 use Rattle.ipv6.proofs.FormLaws.{formWriting-length, formWriting-zero, formWriting-room, formWriting-done, formReading-prefix, formReading-length, formReading-other, formReading-zero, formReading-some, formReading-valid}
-
-is : {A : Type 0} → Dec A → ((A → ⊥) → ⊥) → A
-is d h = Dec·not-not d .0 h
 
 -- ---- writing
 
@@ -48,7 +45,7 @@ module _ (prefix : List ℕ) (a : ℕ) (buffer : List ℕ) where
   first-formWriting =
       decided (Dec·not (ℕ-discrete (length prefix) half))
       (λ other. refusal-refuseWriting 12 buffer (formWriting-length prefix a buffer other)) λ eight.
-      let l = is (ℕ-discrete (length prefix) half) eight in
+      let l = holds (ℕ-discrete (length prefix) half) eight in
       decided (ℕ-discrete a 0) (λ e. refusal-refuseWriting 9 buffer (formWriting-zero prefix a buffer l e)) λ some.
       decided (decLt (length buffer) whole) (λ short. refusal-refuseWriting 10 buffer (formWriting-room prefix a buffer l some short)) λ room.
       refusal-write (form prefix a) buffer (formWriting-done prefix a buffer l some (omega arith))
@@ -63,18 +60,6 @@ form-write-refusals = record {
 -- ---- reading
 
 module _ (prefix ipv6 : List ℕ) where
-  otherLengths : Dec ((length ipv6 ≡ whole → ⊥) ⊎ (length prefix ≡ half → ⊥))
-  otherLengths = go (ℕ-discrete (length ipv6) whole) (ℕ-discrete (length prefix) half)
-    where
-      neither : length ipv6 ≡ whole → length prefix ≡ half → (length ipv6 ≡ whole → ⊥) ⊎ (length prefix ≡ half → ⊥) → ⊥
-      neither m l (inl n) = n m
-      neither m l (inr n) = n l
-
-      go : Dec (length ipv6 ≡ whole) → Dec (length prefix ≡ half) → Dec ((length ipv6 ≡ whole → ⊥) ⊎ (length prefix ≡ half → ⊥))
-      go (no n) d = yes (inl n)
-      go (yes m) (no n) = yes (inr n)
-      go (yes m) (yes l) = no (neither m l)
-
   formReading-lengths : (length ipv6 ≡ whole → ⊥) ⊎ (length prefix ≡ half → ⊥) → formReading prefix ipv6 ≡ refusedAddress 12
   formReading-lengths (inr n) = formReading-prefix prefix ipv6 n
   formReading-lengths (inl n) = go (ℕ-discrete (length prefix) half)
@@ -85,11 +70,12 @@ module _ (prefix ipv6 : List ℕ) where
 
   first-formReading : First (formReadingOrder prefix ipv6) (formReading prefix ipv6 .refusal)
   first-formReading =
-      decided otherLengths (λ other. ap number (formReading-lengths other)) λ lengths.
-      let m = is (ℕ-discrete (length ipv6) whole) (λ n. lengths (inl n)) in
-      let l = is (ℕ-discrete (length prefix) half) (λ n. lengths (inr n)) in
+      decided (one-of (Dec·not (ℕ-discrete (length ipv6) whole)) (Dec·not (ℕ-discrete (length prefix) half)))
+      (λ other. ap number (formReading-lengths other)) λ lengths.
+      let m = holds (ℕ-discrete (length ipv6) whole) (λ n. lengths (inl n)) in
+      let l = holds (ℕ-discrete (length prefix) half) (λ n. lengths (inr n)) in
       decided (Dec·not (List-discrete ℕ-discrete (take half ipv6) prefix)) (λ other. ap number (formReading-other prefix ipv6 l m other)) λ first.
-      let e = is (List-discrete ℕ-discrete (take half ipv6) prefix) first in
+      let e = holds (List-discrete ℕ-discrete (take half ipv6) prefix) first in
       decided (List-discrete ℕ-discrete (drop half ipv6) (replicate half 0))
       (λ zeros. ap number (formReading-zero prefix ipv6 l m e (ap value zeros ∙ value-zeros half))) λ some.
       let last : length (drop half ipv6) ≡ half = length-drop half ipv6 ∙ omega arith in
