@@ -15,7 +15,7 @@ use Rattle.address.specs.Address.{bitLength}
 use Rattle.address.specs.Numbers.{IsAddress}
 use Rattle.address.proofs.Numbers.{bitLength-le, bitLength-pos, lt-bitLength, ge-bitLength}
 use Rattle.header.specs.Header.{size, sizeAllowed, IsSize, unit, mostOctets}
-use Rattle.header.specs.Fewest.{IsFewest, FewestPairs}
+use Rattle.header.specs.Fewest.{IsFewest, FewestPairs, SizeExactly}
 
 octets-pow : (s : ℕ) → 256 ^ s ≡ 2 ^ (8 * s)
 octets-pow zero = refl
@@ -62,7 +62,6 @@ sizeAllowed-le h = allowed-parts h .0
 pub sizeAllowed-ge : {s : ℕ} → sizeAllowed s ≡ true → 0 < s → unit ≤ s
 sizeAllowed-ge h some = omega (arith, allowed-parts h)
 
--- the test is right about every size that is at least 1
 pub sizeAllowed-true : {s : ℕ} → sizeAllowed s ≡ true → 0 < s → IsSize s
 sizeAllowed-true {s} h some = go (ℕ-discrete s 2) (ℕ-discrete s 4) (ℕ-discrete s 6)
   where
@@ -78,6 +77,9 @@ size-sizeAllowed (inl e) = rw e
 size-sizeAllowed (inr (inl e)) = rw e
 size-sizeAllowed (inr (inr (inl e))) = rw e
 size-sizeAllowed (inr (inr (inr e))) = rw e
+
+pub size-exactly : SizeExactly
+size-exactly s some = (λ h. sizeAllowed-true h some, size-sizeAllowed)
 
 pub fewest-pairs : FewestPairs
 unfolding size

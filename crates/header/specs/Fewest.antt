@@ -1,7 +1,10 @@
 -- "The address takes the fewest pairs of octets that hold it: 2, 4, 6 or 8 octets".
 use Prim.Native.Nat.{ℕ, _^_, _<_, _≤_}
+use mathlib.Core.Path.{_≡_}
+use mathlib.Core.Bool.{true}
+use mathlib.Core.Logic.{_↔_}
 use Rattle.address.specs.Numbers.{IsAddress}
-use Rattle.header.specs.Header.{size, IsSize}
+use Rattle.header.specs.Header.{size, IsSize, sizeAllowed}
 
 pub record IsFewest (a : ℕ) : Type 0 where
   pub allowed : IsSize (size a)
@@ -10,3 +13,7 @@ pub record IsFewest (a : ℕ) : Type 0 where
 
 abbrev pub FewestPairs : Type 0
 FewestPairs = (a : ℕ) → IsAddress a → IsFewest a
+
+-- the test is right about every size that an octet can tell
+abbrev pub SizeExactly : Type 0
+SizeExactly = (s : ℕ) → 0 < s → (sizeAllowed s ≡ true) ↔ IsSize s

@@ -5,7 +5,7 @@ use Prim.Native.Nat.{ℕ}
 use lib.ListN.{length, drop}
 use Rattle.octets.specs.Octets.{WriteEffect}
 
--- "With any refusal the .. and every other number returned beside its own are 0, .. and no byte or word lent is changed."
+-- "With any refusal .. every other number returned beside its own are 0, .. and no byte or word lent is changed."
 abbrev pub RefusalLeaves : List ℕ → WriteEffect → Type 0
 RefusalLeaves buffer w = (w .answer .refusal ≡ 0 → ⊥) → (w .answer .count ≡ 0) × (w .buffer ≡ buffer)
 
