@@ -1,6 +1,7 @@
 -- The laws of the address crate.
 pub mod ChoiceLaws
 pub mod OrderLaws
+pub mod Decided
 pub mod Numbers
 pub mod Steps
 pub mod Answers

@@ -2,3 +2,4 @@
 pub mod Forward
 pub mod Refusals
 pub mod BySteps
+pub mod WrongRules

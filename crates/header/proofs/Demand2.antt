@@ -21,7 +21,7 @@ use Rattle.octets.specs.Octets.{octets, value, AreOctets, WriteEffect, write, w
 use Rattle.address.proofs.ChoiceLaws.{if-zero}
 use Rattle.octets.proofs.OctetLaws.{length-octets, value-octets-of-lt, octets-octets, octets-value, value-lt, value-fits, value-lt-of-zeros, value-ge-of-zeros}
 use Rattle.header.specs.Header.{header, place, size, unit, fixedOctets, pageOctet, criticalPattern, routingType, sizeAllowed, writing, reading, found, startFault, inOrder, sizeTold, addressFault, zeroFault, addressOctets}
-use Rattle.header.specs.RoundTrip.{RoundTrip}
+use Rattle.header.specs.RoundTrip.{HeaderRoundTrip}
 use Rattle.header.proofs.Size.{size-le, size-ge, size-allowed, size-exact, size-least, sizeAllowed-le, sizeAllowed-ge, fewest-pairs}
 use Rattle.header.proofs.Start.{startFault-zero}
 use Rattle.header.proofs.Parts.{length-addressOctets, octets-addressOctets, addressFault-zero}
@@ -195,8 +195,8 @@ where-done a buffer payload n fits e =
       ap length left ∙ omega (arith, length-append (header a) rest, length-header a, length-drop (place a) buffer),
     )
 
-pub round-trip : RoundTrip writing reading
-round-trip = record {
+pub header-round-trip : HeaderRoundTrip writing reading
+header-round-trip = record {
   whereDone = where-done;
   readsBack = λ a buffer n h.
       let (answered, left) = wrote-header a buffer n h in (answered, ap reading left ∙ reading-header n (drop (place a) buffer));

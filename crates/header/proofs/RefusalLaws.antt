@@ -16,10 +16,10 @@ use Rattle.address.specs.Order.{First}
 use Rattle.address.proofs.OrderLaws.{given-exactly}
 use Rattle.octets.specs.Octets.{value, refuseWriting, write}
 use Rattle.octets.proofs.Correspondence.{value-zero, value-zeros}
-use Rattle.octets.proofs.Decided.{decided, one-of, holds}
+use Rattle.address.proofs.Decided.{decided, one-of, holds}
 use Rattle.octets.proofs.LentLaws.{refusal-refuseWriting, refusal-write, Outcome, outcome-leaves, outcome-writes}
 use Rattle.header.specs.Header.{unit, IsSize, sizeAllowed, size, header, place, writing, HeaderAnswer, reading, refusedHeader, found, fixedOctets, pageOctet, criticalPattern, routingType, inOrder, startFault, isPageOctet, hasCriticalPattern, isRoutingType, sizeTold, addressOctets, zeroFault, addressFault}
-use Rattle.header.specs.Refusals.{writingOrder, HeaderWriteRefusals, octetAt, OtherTopBits, sizeSaid, FirstZeros, sizedOrder, readingOrder, Accepted, HeaderReadRefusals}
+use Rattle.header.specs.Refusals.{writingOrder, HeaderWriteRefusals, octetAt, OtherTopBits, sizeSaid, FirstZeros, sizedOrder, readingOrder, AcceptedHeader, HeaderReadRefusals}
 use Rattle.header.proofs.Size.{sizeAllowed-true, size-sizeAllowed, sizeAllowed-ge}
 use Rattle.header.proofs.Start.{inOrder-absent, inOrder-wrong, inOrder-right, startFault-page, startFault-critical, startFault-zero}
 use Rattle.header.proofs.Parts.{length-addressOctets, addressFault-zero}
@@ -176,7 +176,7 @@ first-reading p =
     subst (λ (n : ℕ). First (sizedOrder (sizeSaid p) p) n) (sym fault) (first-sized (sizeSaid p) p (omega arith))
 
 -- without a refusal the checks found no fault
-accepted : (p : List ℕ) → reading p .refusal ≡ 0 → Accepted p (reading p .address) (reading p .place)
+accepted : (p : List ℕ) → reading p .refusal ≡ 0 → AcceptedHeader p (reading p .address) (reading p .place)
 unfolding sizeTold addressOctets
 accepted p e =
     let r = reading p in

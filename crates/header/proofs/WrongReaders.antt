@@ -11,13 +11,13 @@ use Rattle.address.specs.Bits.{bits, bitsIn}
 use Rattle.address.specs.Address.{bitLength}
 use Rattle.octets.specs.Octets.{AreOctets, value, joined, octets, write}
 use Rattle.header.specs.Header.{header, place, size, writing, startFault, inOrder, sizeTold, addressOctets}
-use Rattle.header.specs.RoundTrip.{RoundTrip}
+use Rattle.header.specs.RoundTrip.{HeaderRoundTrip}
 use Rattle.header.specs.WrongReaders.{surplusReader}
 
 longer : List ℕ
 longer = 0xF1 ∷ 0x83 ∷ 0x0F ∷ 0 ∷ 0 ∷ 0 ∷ 0x3E ∷ []
 
-pub surplus-reader-refuted : RoundTrip writing surplusReader → ⊥
+pub surplus-reader-refuted : HeaderRoundTrip writing surplusReader → ⊥
 unfolding longer surplusReader startFault inOrder sizeTold addressOctets value joined writing write header octets place size bitLength bits bitsIn
 surplus-reader-refuted claim =
     let all : AreOctets longer = (lit< tt, (lit< tt, (lit< tt, (lit< tt, (lit< tt, (lit< tt, (lit< tt, tt))))))) in

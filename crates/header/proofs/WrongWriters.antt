@@ -12,25 +12,25 @@ use Rattle.address.specs.Address.{bitLength}
 use Rattle.address.specs.Numbers.{IsAddress}
 use Rattle.octets.specs.Octets.{octets, refuseWriting, write}
 use Rattle.header.specs.Header.{header, place, size, writing, reading, HeaderAnswer, startFault, inOrder}
-use Rattle.header.specs.RoundTrip.{RoundTrip}
+use Rattle.header.specs.RoundTrip.{HeaderRoundTrip}
 use Rattle.header.specs.WrongWriters.{silentWriter, refusingWriter, roomlessWriter, spoilingWriter}
 
 one : IsAddress 1
 one = record { some = lit< tt; fits = lit< tt }
 
-pub silent-writer-refuted : RoundTrip silentWriter reading → ⊥
+pub silent-writer-refuted : HeaderRoundTrip silentWriter reading → ⊥
 unfolding silentWriter reading startFault inOrder place size bitLength bits bitsIn
 silent-writer-refuted claim = omega (arith, ap (λ (x : HeaderAnswer). x .refusal) (claim .readsBack 1 (replicate 5 0) one (lit≤ tt) .1))
 
-pub refusing-writer-refuted : RoundTrip refusingWriter reading → ⊥
+pub refusing-writer-refuted : HeaderRoundTrip refusingWriter reading → ⊥
 unfolding refusingWriter refuseWriting place size bitLength bits bitsIn
 refusing-writer-refuted claim = omega (arith, ap (λ (w : Written). w .refusal) (claim .readsBack 1 (replicate 5 0) one (lit≤ tt) .0))
 
-pub roomless-writer-refuted : RoundTrip roomlessWriter reading → ⊥
+pub roomless-writer-refuted : HeaderRoundTrip roomlessWriter reading → ⊥
 unfolding roomlessWriter write reading startFault inOrder place size bitLength bits bitsIn
 roomless-writer-refuted claim = omega (arith, ap (λ (x : HeaderAnswer). x .refusal) (claim .whereDone 1 [] [] 5 (one .fits) refl .0))
 
-pub spoiling-writer-refuted : RoundTrip spoilingWriter reading → ⊥
+pub spoiling-writer-refuted : HeaderRoundTrip spoilingWriter reading → ⊥
 unfolding spoilingWriter writing write header octets place size bitLength bits bitsIn
 spoiling-writer-refuted claim =
     omega (arith, ap (λ (l : List ℕ). getD l 0 0) (claim .whereDone 1 (replicate 6 0) [] 5 (one .fits) refl .1))

@@ -73,7 +73,7 @@ readingOrder p =
 
 -- "Packet: octet 0xF1 ..; octet 100sssss, where sssss is the number of address octets less one ..; octet 15 as the type ..; the address,
 -- most significant octet first; the payload, which may be empty." "The answer is the address and the place where the payload begins."
-pub record Accepted (p : List ℕ) (address place : ℕ) : Type 0 where
+pub record AcceptedHeader (p : List ℕ) (address place : ℕ) : Type 0 where
   pub os : List ℕ
   pub payload : List ℕ
   pub laid : p ≡ 0xF1 ∷ (0b10000000 + (length os - 1)) ∷ 15 ∷ (os ++ payload)
@@ -85,4 +85,4 @@ pub record HeaderReadRefusals : Type 0 where
   pub given : (p : List ℕ) → GivenExactly (readingOrder p) (reading p .refusal)
   -- "With any refusal the address, place, .. and every other number returned beside its own are 0"
   pub beside : (p : List ℕ) → (reading p .refusal ≡ 0 → ⊥) → (reading p .address ≡ 0) × (reading p .place ≡ 0)
-  pub without : (p : List ℕ) → reading p .refusal ≡ 0 → Accepted p (reading p .address) (reading p .place)
+  pub without : (p : List ℕ) → reading p .refusal ≡ 0 → AcceptedHeader p (reading p .address) (reading p .place)

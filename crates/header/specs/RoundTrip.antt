@@ -10,13 +10,13 @@ use Rattle.octets.specs.Octets.{WriteEffect, AreOctets, wrote}
 use Rattle.header.specs.Header.{HeaderAnswer, found, place}
 
 -- the address, and the lent buffer as it comes
-abbrev pub Writer : Type 0
-Writer = ℕ → List ℕ → WriteEffect
+abbrev pub HeaderWriter : Type 0
+HeaderWriter = ℕ → List ℕ → WriteEffect
 
-abbrev pub Reader : Type 0
-Reader = List ℕ → HeaderAnswer
+abbrev pub HeaderReader : Type 0
+HeaderReader = List ℕ → HeaderAnswer
 
-pub record RoundTrip (writer : Writer) (reader : Reader) : Type 0 where
+pub record HeaderRoundTrip (writer : HeaderWriter) (reader : HeaderReader) : Type 0 where
   -- in every buffer that has room the address is written, and the buffer reads as the address; what stood behind is the payload
   pub readsBack : (a : ℕ) (buffer : List ℕ) → IsAddress a → place a ≤ length buffer
       → (writer a buffer .answer ≡ wrote (place a)) × (reader (writer a buffer .buffer) ≡ found a (place a))

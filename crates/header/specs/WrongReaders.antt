@@ -6,10 +6,10 @@ use lib.ListN.{length}
 use Rattle.address.specs.Choice.{if_then_else_}
 use Rattle.octets.specs.Octets.{value}
 use Rattle.header.specs.Header.{fixedOctets, reading, found, startFault, sizeTold, addressOctets}
-use Rattle.header.specs.RoundTrip.{Reader}
+use Rattle.header.specs.RoundTrip.{HeaderReader}
 
 -- it takes four octets also where the first pair is zeros and two would do; right otherwise
-unfoldable pub surplusReader : Reader
+unfoldable pub surplusReader : HeaderReader
 surplusReader p =
     if eqb (startFault p) 0 && eqb (sizeTold p) 4 && leb (fixedOctets + 4) (length p) && ltb 0 (value (addressOctets 4 p))
     then found (value (addressOctets 4 p)) (fixedOctets + 4)

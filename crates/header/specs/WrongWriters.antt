@@ -4,24 +4,24 @@ use lib.ListN.{length, take, set}
 use Rattle.address.specs.Choice.{if_then_else_}
 use Rattle.octets.specs.Octets.{wrote, refuseWriting, write}
 use Rattle.header.specs.Header.{place, header, writing}
-use Rattle.header.specs.RoundTrip.{Writer}
+use Rattle.header.specs.RoundTrip.{HeaderWriter}
 
 -- "One that writes no header yet says done": the buffer stays as it was
-unfoldable pub silentWriter : Writer
+unfoldable pub silentWriter : HeaderWriter
 silentWriter a buffer = record { answer = wrote (place a); buffer = buffer }
 
 -- "One that refuses everything"
-unfoldable pub refusingWriter : Writer
+unfoldable pub refusingWriter : HeaderWriter
 refusingWriter a buffer = refuseWriting 10 buffer
 
 -- it says done without room, and writes what fits; right otherwise
-unfoldable pub roomlessWriter : Writer
+unfoldable pub roomlessWriter : HeaderWriter
 roomlessWriter a buffer =
     if eqb a 0 then refuseWriting 9 buffer
     else record { answer = wrote (place a); buffer = take (length buffer) (write (header a) buffer .buffer) }
 
 -- it spoils the octet behind the header; right otherwise
-unfoldable pub spoilingWriter : Writer
+unfoldable pub spoilingWriter : HeaderWriter
 spoilingWriter a buffer =
     if eqb (writing a buffer .answer .refusal) 0 then record { answer = wrote (place a); buffer = set (writing a buffer .buffer) (place a) 0xFF }
     else writing a buffer

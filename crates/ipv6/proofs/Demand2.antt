@@ -16,11 +16,11 @@ use Rattle.address.specs.Numbers.{IsAddress}
 use Rattle.address.specs.Address.{validAddress, made}
 use Rattle.octets.specs.Octets.{octets, value, AreOctets, WriteEffect, wrote, write}
 use Rattle.octets.specs.declared.Written.{Written}
-use Rattle.octets.proofs.Decided.{holds}
+use Rattle.address.proofs.Decided.{holds}
 use Rattle.octets.proofs.OctetLaws.{octets-value, value-octets-of-lt, value-fits, drop-octets}
 use Rattle.ipv6.specs.Form.{half, whole, form, formWriting, formReading}
 use Rattle.ipv6.specs.Refusals.{formWritingOrder}
-use Rattle.ipv6.specs.RoundTrip.{RoundTrip}
+use Rattle.ipv6.specs.RoundTrip.{FormRoundTrip}
 use Rattle.ipv6.proofs.FormLaws.{length-form, formWriting-done, formReading-same, Read, formReading-valid}
 use Rattle.ipv6.proofs.RefusalLaws.{form-write-refusals}
 
@@ -85,8 +85,8 @@ where-done prefix a buffer n fits e =
       ap length left ∙ omega (arith, length-append os (drop whole buffer), length-drop whole buffer),
     )
 
-pub round-trip : RoundTrip formWriting formReading
-round-trip = record {
+pub form-round-trip : FormRoundTrip formWriting formReading
+form-round-trip = record {
   whereDone = where-done;
   readsBack = λ prefix a buffer l address room.
       let w = written prefix a buffer l (address .some) room in

@@ -15,10 +15,10 @@ use Rattle.address.specs.Address.{AddressAnswer, validAddress, refusedAddress}
 use Rattle.address.proofs.OrderLaws.{given-exactly}
 use Rattle.octets.specs.Octets.{value, same, WriteEffect, refuseWriting, write}
 use Rattle.octets.proofs.Correspondence.{value-zero, value-zeros}
-use Rattle.octets.proofs.Decided.{decided, one-of, holds}
+use Rattle.address.proofs.Decided.{decided, one-of, holds}
 use Rattle.octets.proofs.LentLaws.{refusal-refuseWriting, refusal-write, Outcome, outcome-leaves, outcome-writes}
 use Rattle.ipv6.specs.Form.{half, whole, form, formWriting, formReading}
-use Rattle.ipv6.specs.Refusals.{formWritingOrder, FormWriteRefusals, formReadingOrder, Accepted, FormReadRefusals}
+use Rattle.ipv6.specs.Refusals.{formWritingOrder, FormWriteRefusals, formReadingOrder, AcceptedForm, FormReadRefusals}
 use Rattle.ipv6.proofs.FormLaws.{formWriting-length, formWriting-zero, formWriting-room, formWriting-done, formReading-prefix, formReading-length, formReading-other, formReading-zero, formReading-some, formReading-valid}
 
 -- ---- writing
@@ -101,7 +101,7 @@ module _ (prefix ipv6 : List ℕ) where
       go false false true h = refl
       go false false false h = absurd (h refl)
 
-  accepted : formReading prefix ipv6 .refusal ≡ 0 → Accepted prefix ipv6 (formReading prefix ipv6 .address)
+  accepted : formReading prefix ipv6 .refusal ≡ 0 → AcceptedForm prefix ipv6 (formReading prefix ipv6 .address)
   accepted e =
       let r = formReading prefix ipv6 in
       let read = formReading-valid prefix ipv6 (r .address) (ap (λ (n : ℕ). record { refusal = n; address = r .address }) e) in

@@ -5,9 +5,9 @@ use lib.ListN.{replicate}
 use Rattle.octets.specs.Octets.{octets, value, joined, same}
 use Rattle.octets.proofs.OctetLaws.{octets-octets}
 use Rattle.ipv6.specs.Form.{half, formWriting, formReading}
-use Rattle.ipv6.specs.RoundTrip.{RoundTrip}
-use Rattle.ipv6.specs.WrongReaders.{surplusReader}
+use Rattle.ipv6.specs.RoundTrip.{FormRoundTrip}
+use Rattle.ipv6.specs.WrongReaders.{surplusFormReader}
 
-pub surplus-reader-refuted : RoundTrip formWriting surplusReader → ⊥
-unfolding surplusReader formReading same value joined octets
-surplus-reader-refuted claim = omega (arith, claim .writtenSo (replicate half 0) (octets 17 256) 1 (octets-octets 17 256) refl .2)
+pub surplus-form-reader-refuted : FormRoundTrip formWriting surplusFormReader → ⊥
+unfolding surplusFormReader formReading same value joined octets
+surplus-form-reader-refuted claim = omega (arith, claim .writtenSo (replicate half 0) (octets 17 256) 1 (octets-octets 17 256) refl .2)

@@ -43,7 +43,7 @@ formReadingOrder prefix ipv6 =
     otherwise done
 
 -- "prefix of 8 octets, then the address in 8 octets"
-pub record Accepted (prefix ipv6 : List ℕ) (address : ℕ) : Type 0 where
+pub record AcceptedForm (prefix ipv6 : List ℕ) (address : ℕ) : Type 0 where
   pub os : List ℕ
   pub laid : ipv6 ≡ prefix ++ os
   pub halves : (length prefix ≡ 8) × (length os ≡ 8)
@@ -53,4 +53,4 @@ pub record FormReadRefusals : Type 0 where
   pub given : (prefix ipv6 : List ℕ) → GivenExactly (formReadingOrder prefix ipv6) (formReading prefix ipv6 .refusal)
   -- "With any refusal the address, .. and every other number returned beside its own are 0"
   pub beside : (prefix ipv6 : List ℕ) → (formReading prefix ipv6 .refusal ≡ 0 → ⊥) → formReading prefix ipv6 .address ≡ 0
-  pub without : (prefix ipv6 : List ℕ) → formReading prefix ipv6 .refusal ≡ 0 → Accepted prefix ipv6 (formReading prefix ipv6 .address)
+  pub without : (prefix ipv6 : List ℕ) → formReading prefix ipv6 .refusal ≡ 0 → AcceptedForm prefix ipv6 (formReading prefix ipv6 .address)

@@ -11,14 +11,14 @@ use Rattle.octets.specs.Octets.{WriteEffect, AreOctets, wrote}
 use Rattle.ipv6.specs.Form.{half, whole}
 
 -- the prefix, the address, and the lent buffer as it comes
-abbrev pub Writer : Type 0
-Writer = List ℕ → ℕ → List ℕ → WriteEffect
+abbrev pub FormWriter : Type 0
+FormWriter = List ℕ → ℕ → List ℕ → WriteEffect
 
 -- the prefix, and the IPv6 address
-abbrev pub Reader : Type 0
-Reader = List ℕ → List ℕ → AddressAnswer
+abbrev pub FormReader : Type 0
+FormReader = List ℕ → List ℕ → AddressAnswer
 
-pub record RoundTrip (writer : Writer) (reader : Reader) : Type 0 where
+pub record FormRoundTrip (writer : FormWriter) (reader : FormReader) : Type 0 where
   -- with every prefix of 8 octets, in every buffer that has room the address is written, and the first 16 octets read as the address
   pub readsBack : (prefix : List ℕ) (a : ℕ) (buffer : List ℕ) → length prefix ≡ half → IsAddress a → whole ≤ length buffer
       → (writer prefix a buffer .answer ≡ wrote whole) × (reader prefix (take whole (writer prefix a buffer .buffer)) ≡ validAddress a)

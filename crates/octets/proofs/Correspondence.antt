@@ -7,7 +7,7 @@ use native.Mathlib.Nat.{zero-add}
 use native.Mathlib.Omega.{arith}
 use lib.ListN.{length, replicate}
 use Rattle.octets.specs.Octets.{joined, value, same}
-use Rattle.octets.specs.OneToOne.{SameExactly, OneToOne}
+use Rattle.octets.specs.Correspondence.{SameExactly, OctetsOneToOne}
 use Rattle.octets.proofs.OctetLaws.{length-octets, octets-octets, value-octets-of-lt, octets-value, value-lt, value-append}
 use Rattle.octets.proofs.SameLaws.{same-refl, same-true}
 
@@ -32,9 +32,9 @@ unfolding value joined
 value-zeros zero = refl
 value-zeros (suc k) = value-zeros k
 
-pub one-to-one : OneToOne
+pub octets-one-to-one : OctetsOneToOne
 unfolding value joined
-one-to-one = record {
+octets-one-to-one = record {
   held = λ k n h. (octets-octets k n, length-octets k n, value-octets-of-lt k n h);
   shown = λ os all. (value-lt os all, octets-value os all);
   mostFirst = λ o os. value-append (o ∷ []) os ∙ ap (λ (n : ℕ). n * 256 ^ length os + value os) (zero-add o);

@@ -3,5 +3,4 @@ pub mod OctetLaws
 pub mod SameLaws
 pub mod Correspondence
 pub mod LentLaws
-pub mod Decided
 pub mod Promises

@@ -1,4 +1,4 @@
 -- What the octets crate promises, in definitions and statements alone.
 pub mod Octets
-pub mod OneToOne
+pub mod Correspondence
 pub mod Lent

@@ -1,4 +1,5 @@
 -- The laws of the packet crate.
 pub mod PacketHops
 pub mod RefusalLaws
+pub mod WrongRules
 pub mod Promises

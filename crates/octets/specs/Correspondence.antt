@@ -12,7 +12,7 @@ abbrev pub SameExactly : Type 0
 SameExactly = (xs ys : List ℕ) → (same xs ys ≡ true) ↔ (xs ≡ ys)
 
 -- the numbers below 256 ^ k and k octets correspond one to one
-pub record OneToOne : Type 0 where
+pub record OctetsOneToOne : Type 0 where
   pub held : (k n : ℕ) → n < 256 ^ k → AreOctets (octets k n) × (length (octets k n) ≡ k) × (value (octets k n) ≡ n)
   pub shown : (os : List ℕ) → AreOctets os → (value os < 256 ^ length os) × (octets (length os) (value os) ≡ os)
   -- "most significant octet first"
