@@ -47,8 +47,9 @@ fn steps_behind(address: Address, common: u32) -> u32
     zeros
 }
 
-// The turning point of two addresses that differ has the steps of the bits that both begin with, a step for each 0, so what either has behind
-// these is its way. More bits than both have may be taken for common ones, but none of them is a 0 of either.
+// The hops up and down. The turning point of two addresses that differ has a step for each 0 of the bits that both begin with, so the steps
+// that either has behind these are its way. Ones of the longer address may be taken for common bits where the shorter one has ended: they
+// are no steps. The last place of both words is empty, so the 1 set there hides no difference, and it keeps the count below 64.
 fn count_ways(first: Address, second: Address) -> Ways
     requires { ⌜ (0 < first .number) × (0 < second .number) ⌝ }
     ensures { λ r. ⌜ (length (turn (steps (first .number)) (steps (second .number))) + r .up ≡ depth (first .number)) × (length (turn (steps (first .number)) (steps (second .number))) + r .down ≡ depth (second .number)) ⌝ }
