@@ -11,4 +11,3 @@ pub mod Forwarding
 pub mod Theorem
 pub mod WrongChildren
 pub mod WrongHops
-pub mod Ties

@@ -1,0 +1,2 @@
+-- The front page's lines, each taken from the record that carries it.
+mod Lines

@@ -1,0 +1,349 @@
+-- The front page's lines, each taken from the record that carries it: a clause that is dropped there breaks the page. Assumes nothing.
+use Prim.Native.Nat.{ℕ}
+use mathlib.Core.Path.{_≡_, refl, ap, _∙_}
+use mathlib.Core.List.{List, [], _∷_, _++_}
+use Rattle.address.specs.Steps.{Step, steps, addressOf}
+use Rattle.address.specs.Address.{depth, above, parent}
+use Rattle.address.specs.Numbers.{IsAddress}
+use Rattle.address.proofs.Numbers.{one-to-one, leadingZeros-bitLength}
+use Rattle.address.proofs.Steps.{exactly-one-cut, depth-range}
+use Rattle.address.proofs.Ancestors.{steps-tail}
+use Rattle.address.proofs.KindLaws.{kinds}
+use Rattle.address.proofs.RefusalLaws.{address-refusals}
+use Rattle.address.proofs.Promises.{new-promise, new-asks-nothing}
+use Rattle.octets.proofs.Correspondence.{octets-one-to-one, same-exactly}
+use Rattle.search.proofs.Words.{search-words}
+use Rattle.header.specs.Header.{header}
+use Rattle.header.proofs.Size.{fewest-pairs}
+use Rattle.header.proofs.Demand2.{header-round-trip}
+use Rattle.header.proofs.RefusalLaws.{header-write-refusals, header-read-refusals}
+use Rattle.header.proofs.WrongWriters.{silent-writer-refuted, refusing-writer-refuted, roomless-writer-refuted, spoiling-writer-refuted}
+use Rattle.header.proofs.WrongReaders.{surplus-reader-refuted}
+use Rattle.header.proofs.Promises.{read-promise as header-read-promise, write-asks-nothing as header-write-asks-nothing, read-asks-nothing as header-read-asks-nothing}
+use Rattle.ipv6.proofs.Demand2.{form-round-trip}
+use Rattle.ipv6.proofs.RefusalLaws.{form-write-refusals, form-read-refusals}
+use Rattle.ipv6.proofs.WrongWriters.{silent-form-writer-refuted, refusing-form-writer-refuted, short-prefix-writer-refuted, roomless-form-writer-refuted, spoiling-form-writer-refuted}
+use Rattle.ipv6.proofs.WrongReaders.{surplus-form-reader-refuted}
+use Rattle.ipv6.proofs.Promises.{read-promise as form-read-promise, write-asks-nothing as form-write-asks-nothing, read-asks-nothing as form-read-asks-nothing}
+use Rattle.node.specs.Node.{fresh}
+use Rattle.node.proofs.Children.{isGood-fresh}
+use Rattle.node.proofs.GivenChildren.{gives-children}
+use Rattle.node.proofs.RefusalLaws.{good-records, child-refusals}
+use Rattle.node.proofs.WrongRules.{refusesAll-refuted, rootIsHost-refuted, hostFirst-refuted, oneTooMany-refuted, shortOfLimit-refuted, addressBeside-refuted}
+use Rattle.node.proofs.Promises.{fresh-promise, fresh-asks-nothing, child-promise, child-asks-nothing}
+use Rattle.forward.specs.Forward.{HopAnswer}
+use Rattle.forward.proofs.RefusalLaws.{hop-refusals}
+use Rattle.forward.proofs.WrongRules.{zeroFirst-refuted}
+use Rattle.forward.proofs.Promises.{next-hop-promise, next-hop-asks-nothing}
+use Rattle.packet.proofs.RefusalLaws.{packet-refusals}
+use Rattle.packet.proofs.WrongRules.{readingFirst-refuted}
+use Rattle.packet.proofs.Promises.{next-hop-promise as packet-next-hop-promise, next-hop-asks-nothing as packet-next-hop-asks-nothing}
+use Rattle.route.proofs.Turning.{turning-points}
+use Rattle.route.proofs.Length.{at-most-126}
+use Rattle.route.proofs.Words.{path-words}
+use Rattle.route.proofs.RefusalLaws.{path-refusals}
+use Rattle.route.proofs.Promises.{path-asks-nothing}
+use Rattle.line.proofs.Exact.{exactly-the-line, output-fits}
+use Rattle.line.proofs.RefusalLaws.{line-refusals, answer-refusals}
+use Rattle.line.proofs.DecimalLaws.{decimal-reads-back}
+use Rattle.line.proofs.EdgeLaws.{edge}
+use Rattle.line.proofs.Promises.{answer-asks-nothing}
+use Rattle.known.proofs.Proved.{known-values}
+use Rattle.tree.specs.Tree.{Request, InTree}
+use Rattle.tree.specs.Demand3.{Arrives}
+use Rattle.packet.specs.Packet.{packetHop}
+use Rattle.tree.proofs.Growth.{sound-grown}
+use Rattle.tree.proofs.Theorem.{demand-3}
+use Rattle.tree.proofs.WrongChildren.{sameChild-refuted, sharedCount-refuted, limitOnParent-refuted}
+use Rattle.tree.proofs.WrongHops.{refusesEverything-refuted, parentToAll-refuted, leaps-refuted, namesNobody-refuted, hostKeeps-refuted, hostDelivers-refuted, rootAsHost-refuted, lowBits-refuted, beforeLastBit-refuted, oneCount-refuted}
+use Rattle.pasa.proofs.Promises.{fresh-promise as pasa-fresh-promise, child-router-promise as pasa-child-router-promise, child-host-promise as pasa-child-host-promise, next-hop-promise as pasa-next-hop-promise, packet-next-hop-promise as pasa-packet-next-hop-promise, next-hops-promise as pasa-next-hops-promise, header-write-promise as pasa-header-write-promise, header-read-promise as pasa-header-read-promise, ipv6-write-promise as pasa-ipv6-write-promise, ipv6-read-promise as pasa-ipv6-read-promise, path-promise as pasa-path-promise, fresh-asks-nothing as pasa-fresh-asks-nothing, child-router-asks-nothing as pasa-child-router-asks-nothing, child-host-asks-nothing as pasa-child-host-asks-nothing, next-hop-asks-nothing as pasa-next-hop-asks-nothing, packet-next-hop-asks-nothing as pasa-packet-next-hop-asks-nothing, next-hops-asks-nothing as pasa-next-hops-asks-nothing, header-write-asks-nothing as pasa-header-write-asks-nothing, header-read-asks-nothing as pasa-header-read-asks-nothing, ipv6-write-asks-nothing as pasa-ipv6-write-asks-nothing, ipv6-read-asks-nothing as pasa-ipv6-read-asks-nothing, path-asks-nothing as pasa-path-asks-nothing}
+use Rattle.pasa.proofs.AddressPromises.{parent-promise as pasa-parent-promise, depth-promise as pasa-depth-promise, bit-length-promise as pasa-bit-length-promise, is-host-promise as pasa-is-host-promise, interface-promise as pasa-interface-promise, parent-asks-nothing as pasa-parent-asks-nothing, depth-asks-nothing as pasa-depth-asks-nothing, bit-length-asks-nothing as pasa-bit-length-asks-nothing, is-host-asks-nothing as pasa-is-host-asks-nothing, interface-asks-nothing as pasa-interface-asks-nothing}
+use Rattle.claims.specs.Addresses.{Addresses, Children}
+use Rattle.claims.specs.Demand1.{ExactlyWhen, NothingBeside, OnlyTheNamed}
+use Rattle.claims.specs.Demand2.{Headers, Forms}
+use Rattle.claims.specs.Demand3.{treeOf, EveryList}
+use Rattle.claims.specs.Paths.{ThePath, TheLine}
+use Rattle.claims.specs.Excluded.{KnownValues, WrongNextHops, WrongChildren, WrongWriters}
+use Rattle.claims.specs.Code.{AsksNothing, AnswersAsDefined}
+use Rattle.claims.specs.Exports.{ExportsAskNothing, ExportsAnswerAsDefined}
+
+-- ---- what an address is
+
+parent-steps : (a : ℕ) (last : Step) (others : List Step) → IsAddress a → steps a ≡ last ∷ others
+    → (parent a ≡ addressOf others) × (steps (parent a) ≡ others)
+unfolding parent above
+parent-steps a last others b e = let up = ap above e in (up, ap steps up ∙ steps-tail b (last ∷ []) others e)
+
+pub addresses : Addresses
+unfolding depth
+addresses = record {
+  stringsHeld = one-to-one .held;
+  numbersShown = one-to-one .shown;
+  lengths = λ a h. leadingZeros-bitLength h;
+  cut = exactly-one-cut .has;
+  cutOneWay = exactly-one-cut .only;
+  spelt = exactly-one-cut .back;
+  hosts = kinds .tested;
+  kinds = kinds .some;
+  rootIsNoHost = (kinds .rootEnds, kinds .rootNoHost);
+  routersAreNeither = λ a r. (kinds .routerNoRoot a r, kinds .routerNoHost a r);
+  parents = parent-steps;
+  depthIsSteps = λ a. refl;
+  depthAtMost = depth-range .most;
+  depthMet = (depth-range .least, depth-range .met .1);
+  prefixes = search-words .begins;
+  prefixBySteps = search-words .bySteps;
+  looked = search-words .looked;
+}
+
+pub children : Children
+unfolding fresh
+children = record {
+  goodRecords = good-records;
+  raisesOne = child-refusals .without;
+  spellsChild = λ n kind h e. gives-children .isChild n kind h e .spells;
+  oneStepMore = λ n kind h e. let given = gives-children .isChild n kind h e in (given .cut, given .parentOf, given .deeper);
+  startsFresh = λ a. (refl, refl, refl);
+  freshIsGood = λ a h. isGood-fresh h;
+  keepsGood = gives-children .keepsGood;
+  keepsAddress = gives-children .keepsAddress;
+}
+
+-- ---- demand 1
+
+pub exactly-when : ExactlyWhen
+exactly-when = record {
+  anAddress = address-refusals .given;
+  aChild = child-refusals .given;
+  aNextHop = hop-refusals .given;
+  aPacket = packet-refusals .given;
+  aHeaderOut = header-write-refusals .given;
+  aHeaderBack = header-read-refusals .given;
+  aFormOut = form-write-refusals .given;
+  aFormBack = form-read-refusals .given;
+  aPath = path-refusals .given;
+  aLine = answer-refusals .given;
+}
+
+pub nothing-beside : NothingBeside
+nothing-beside = record {
+  anAddress = address-refusals .beside;
+  aChild = child-refusals .beside;
+  aNextHop = λ n d h. ap (λ (r : HopAnswer). r .named) (hop-refusals .beside n d h);
+  aPacket = λ n p h. ap (λ (r : HopAnswer). r .named) (packet-refusals .beside n p h);
+  aHeaderOut = header-write-refusals .beside;
+  aHeaderBack = header-read-refusals .beside;
+  aFormOut = form-write-refusals .beside;
+  aFormBack = form-read-refusals .beside;
+  aPath = path-refusals .beside;
+  aLine = answer-refusals .beside;
+}
+
+pub only-the-named : OnlyTheNamed
+only-the-named = record {
+  aHeader = header-write-refusals .without;
+  aForm = form-write-refusals .without;
+  aPath = λ a d words e. path-refusals .without a d words e .1;
+  aLine = answer-refusals .without;
+}
+
+-- ---- demand 2
+
+pub headers : Headers
+headers = record {
+  written = λ a buffer h room. header-round-trip .readsBack a buffer h room .0;
+  readsBack = λ a buffer payload n h done. header-round-trip .whereDone a buffer payload n h done .0;
+  sparesTheRest = λ a buffer n h done. header-round-trip .whereDone a buffer [] n h done .1;
+  acceptsAddresses = λ p a k are e. let so = header-round-trip .writtenSo p a k are e in (so .0, so .1);
+  acceptsTheWritten = λ p a k are e. header-round-trip .writtenSo p a k are e .2;
+  allowedSize = λ a h. fewest-pairs a h .allowed;
+  holds = λ a h. fewest-pairs a h .holds;
+  fewest = λ a s h. fewest-pairs a h .fewest s;
+  octetsHold = λ k n h. octets-one-to-one .held k n h .2;
+  octetsShown = λ os are. octets-one-to-one .shown os are .1;
+  sameOctets = same-exactly;
+}
+
+pub forms : Forms
+forms = record {
+  written = λ prefix a buffer e h room. form-round-trip .readsBack prefix a buffer e h room .0;
+  readsBack = λ prefix a buffer n h done. let so = form-round-trip .whereDone prefix a buffer n h done in (so .0, so .1);
+  sparesTheRest = λ prefix a buffer n h done. form-round-trip .whereDone prefix a buffer n h done .2;
+  acceptsAddresses = λ prefix ipv6 a are e. let so = form-round-trip .writtenSo prefix ipv6 a are e in (so .0, so .1, so .2);
+  acceptsTheWritten = λ prefix ipv6 a are e. form-round-trip .writtenSo prefix ipv6 a are e .3;
+}
+
+-- ---- demand 3
+
+-- a walk needs no packet, and the header of the second is one
+module _ (rs : List Request) {a d : ℕ} (i : InTree a (treeOf rs)) (j : InTree d (treeOf rs)) where
+  arrives : Arrives packetHop (treeOf rs) (header d ++ []) a d
+  arrives = demand-3 rs .arrival a d (header d ++ []) i j (demand-3 rs .packets d [] (sound-grown rs .address d j) tt)
+
+pub every-list : EveryList
+every-list = record {
+  nodes = λ rs. demand-3 rs .nodes;
+  allDiffer = λ rs. demand-3 rs .differ;
+  packets = demand-3 [] .packets;
+  arrives = λ rs a d p i j packet. demand-3 rs .arrival a d p i j packet .theWay;
+  overLinks = λ rs a d i j. arrives rs i j .overLinks;
+  noNodeTwice = λ rs a d i j. arrives rs i j .once;
+  noShorterWalk = λ rs a d w i j walk. arrives rs i j .shortest w walk;
+  absent = λ rs a d p i out packet.
+      let stops = demand-3 rs .absence a d p i out packet in (
+        stops .0,
+        record {
+          ancestor = stops .1 .ancestor;
+          inTree = stops .1 .there;
+          deepest = stops .1 .deepest;
+          theWay = stops .1 .theWay;
+        },
+      );
+}
+
+-- ---- paths and the line
+
+pub the-path : ThePath
+the-path = record {
+  turnsAtAncestor = λ ss ts. (turning-points ss ts .ofFirst, turning-points ss ts .ofSecond);
+  turnsAtDeepest = λ ss ts. turning-points ss ts .deepest;
+  ancestors = path-words .ancestor;
+  sameStep = path-words .same;
+  atMost126 = at-most-126;
+  counts = λ a d words e. path-refusals .without a d words e .0;
+}
+
+pub the-line : TheLine
+the-line = record {
+  answers = line-refusals .without;
+  reads = exactly-the-line .only;
+  refuses = line-refusals .given;
+  noThird = line-refusals .either;
+  pastTheLongest = edge .past;
+  windowDecides = edge .enough;
+  digitsSay = decimal-reads-back .value;
+  fits = output-fits;
+}
+
+-- ---- known values and wrong rules
+
+pub known : KnownValues
+known = record { everyRowHolds = known-values }
+
+pub wrong-next-hops : WrongNextHops
+wrong-next-hops = record {
+  thatRefusesEverything = refusesEverything-refuted;
+  thatSaysParentToAll = parentToAll-refuted;
+  thatLeaps = leaps-refuted;
+  thatNamesNobody = namesNobody-refuted;
+  whereAHostKeeps = hostKeeps-refuted;
+  whereAHostDelivers = hostDelivers-refuted;
+  whereTheRootIsAHost = rootAsHost-refuted;
+  byLowBits = lowBits-refuted;
+  beforeTheLastBit = beforeLastBit-refuted;
+  withOneCount = oneCount-refuted;
+  withZeroFirst = zeroFirst-refuted;
+  withReadingFirst = readingFirst-refuted;
+}
+
+pub wrong-children : WrongChildren
+wrong-children = record {
+  ofOneAddress = sameChild-refuted;
+  withOneCount = sharedCount-refuted;
+  withLimitOnParent = limitOnParent-refuted;
+  thatRefusesAll = refusesAll-refuted;
+  whereTheRootIsAHost = rootIsHost-refuted;
+  withHostFirst = hostFirst-refuted;
+  withOneTooMany = oneTooMany-refuted;
+  shortOfTheLimit = shortOfLimit-refuted;
+  withAnAddressBeside = addressBeside-refuted;
+}
+
+pub wrong-writers : WrongWriters
+wrong-writers = record {
+  silent = silent-writer-refuted;
+  refusing = refusing-writer-refuted;
+  withoutRoom = roomless-writer-refuted;
+  spoiling = spoiling-writer-refuted;
+  longerForm = surplus-reader-refuted;
+  silentForm = silent-form-writer-refuted;
+  refusingForm = refusing-form-writer-refuted;
+  shortPrefix = short-prefix-writer-refuted;
+  formWithoutRoom = roomless-form-writer-refuted;
+  spoilingForm = spoiling-form-writer-refuted;
+  surplusForm = surplus-form-reader-refuted;
+}
+
+-- ---- the code
+
+pub asks-nothing : AsksNothing
+asks-nothing = record {
+  addressNew = new-asks-nothing;
+  nodeFresh = fresh-asks-nothing;
+  nodeChild = child-asks-nothing;
+  nextHopOf = next-hop-asks-nothing;
+  packetHopOf = packet-next-hop-asks-nothing;
+  headerWrite = header-write-asks-nothing;
+  headerRead = header-read-asks-nothing;
+  formWrite = form-write-asks-nothing;
+  formRead = form-read-asks-nothing;
+  pathOf = path-asks-nothing;
+  lineAnswer = answer-asks-nothing;
+}
+
+pub answers-as-defined : AnswersAsDefined
+answers-as-defined = record {
+  addressNew = new-promise;
+  nodeFresh = fresh-promise;
+  nodeChild = child-promise;
+  nextHopOf = next-hop-promise;
+  packetHopOf = packet-next-hop-promise;
+  headerWrite = λ κs a out out′ r h. h;
+  headerRead = header-read-promise;
+  formWrite = λ κs prefix a out out′ r h. h;
+  formRead = form-read-promise;
+  pathOf = λ κs a d words words′ r h. h;
+  lineAnswer = λ κs input out out′ r h. h;
+}
+
+-- ---- the exports
+
+pub exports-ask-nothing : ExportsAskNothing
+exports-ask-nothing = record {
+  pasaFresh = pasa-fresh-asks-nothing;
+  pasaChildRouter = pasa-child-router-asks-nothing;
+  pasaChildHost = pasa-child-host-asks-nothing;
+  pasaNextHop = pasa-next-hop-asks-nothing;
+  pasaPacketNextHop = pasa-packet-next-hop-asks-nothing;
+  pasaNextHops = pasa-next-hops-asks-nothing;
+  pasaHeaderWrite = pasa-header-write-asks-nothing;
+  pasaHeaderRead = pasa-header-read-asks-nothing;
+  pasaIpv6Write = pasa-ipv6-write-asks-nothing;
+  pasaIpv6Read = pasa-ipv6-read-asks-nothing;
+  pasaPath = pasa-path-asks-nothing;
+  pasaParent = pasa-parent-asks-nothing;
+  pasaDepth = pasa-depth-asks-nothing;
+  pasaBitLength = pasa-bit-length-asks-nothing;
+  pasaIsHost = pasa-is-host-asks-nothing;
+  pasaInterface = pasa-interface-asks-nothing;
+}
+
+pub exports-answer-as-defined : ExportsAnswerAsDefined
+exports-answer-as-defined = record {
+  pasaFresh = pasa-fresh-promise;
+  pasaChildRouter = pasa-child-router-promise;
+  pasaChildHost = pasa-child-host-promise;
+  pasaNextHop = pasa-next-hop-promise;
+  pasaPacketNextHop = pasa-packet-next-hop-promise;
+  pasaNextHops = pasa-next-hops-promise;
+  pasaHeaderWrite = pasa-header-write-promise;
+  pasaHeaderRead = pasa-header-read-promise;
+  pasaIpv6Write = pasa-ipv6-write-promise;
+  pasaIpv6Read = pasa-ipv6-read-promise;
+  pasaPath = pasa-path-promise;
+  pasaParent = pasa-parent-promise;
+  pasaDepth = pasa-depth-promise;
+  pasaBitLength = pasa-bit-length-promise;
+  pasaIsHost = pasa-is-host-promise;
+  pasaInterface = pasa-interface-promise;
+}

@@ -1,0 +1,71 @@
+-- "What an address is" and "A node and its children".
+use Prim.Native.Nat.{ℕ, _+_, _^_, _<_, _≤_}
+use mathlib.Core.Path.{_≡_}
+use mathlib.Core.Bool.{true}
+use mathlib.Core.Logic.{_⊎_, _↔_}
+use mathlib.Core.List.{List, _∷_, _++_}
+use lib.ListN.{length}
+use lib.Count.{leadingZeros}
+use Rattle.address.specs.Bits.{Bit, I, bits, number, root}
+use Rattle.address.specs.Steps.{Step, child, steps, stepBits, spelled, addressOf}
+use Rattle.address.specs.Address.{bitLength, isHost, depth, parent}
+use Rattle.address.specs.Numbers.{IsAddressString, IsAddress}
+use Rattle.address.specs.Cuts.{AreSteps}
+use Rattle.address.specs.Ancestors.{AncestorOrSelf}
+use Rattle.address.specs.Kinds.{EndsIn, IsRoot, IsRouter, IsHost}
+use Rattle.address.specs.declared.Kind.{Kind}
+use Rattle.search.specs.Search.{isPrefix}
+use Rattle.search.specs.Exactly.{Stops}
+use Rattle.node.specs.Node.{addressIn, count, raised, isGood, fresh, childOf}
+use Rattle.node.specs.Refusals.{IsGood}
+use Rattle.node.specs.declared.Node.{Node}
+
+pub record Addresses : Type 0 where
+  -- "An address is a string of 1 to 64 bits whose first bit is 1. It is held right-justified in a 64-bit number, so the address is any number
+  -- but zero.": strings and numbers correspond one to one
+  pub stringsHeld : (bs : List Bit) → IsAddressString bs → IsAddress (number bs) × (bits (number bs) ≡ bs)
+  pub numbersShown : (a : ℕ) → IsAddress a → IsAddressString (bits a) × (number (bits a) ≡ a)
+  -- "Its length is 64 less the count of leading zeros"
+  pub lengths : (a : ℕ) → a < 2 ^ 64 → leadingZeros 64 a + bitLength a ≡ 64
+  -- "After the first 1, the string is cut into steps .. Every address has exactly one such reading."
+  pub cut : (a : ℕ) → IsAddress a → AreSteps (steps a) × (spelled (steps a) ≡ bits a)
+  pub cutOneWay : (a : ℕ) (ss : List Step) → IsAddress a → AreSteps ss → spelled ss ≡ bits a → ss ≡ steps a
+  pub spelt : (ss : List Step) → AreSteps ss → length (spelled ss) ≤ 64 → IsAddress (addressOf ss) × (steps (addressOf ss) ≡ ss)
+  -- "The root is 1. A router ends in 0. A host ends in 1 and is longer than one bit. The root ends in 1 and is no host."
+  pub hosts : (a : ℕ) → (isHost a ≡ true) ↔ IsHost a
+  pub kinds : (a : ℕ) → 0 < a → IsRoot a ⊎ IsRouter a ⊎ IsHost a
+  pub rootIsNoHost : EndsIn I 1 × (IsHost 1 → ⊥)
+  pub routersAreNeither : (a : ℕ) → IsRouter a → (IsRoot a → ⊥) × (IsHost a → ⊥)
+  -- "The parent of an address drops its last step."
+  pub parents : (a : ℕ) (last : Step) (others : List Step) → IsAddress a → steps a ≡ last ∷ others
+      → (parent a ≡ addressOf others) × (steps (parent a) ≡ others)
+  -- "Depth is the number of steps, 0 to 63.": no address has more, the root has none, and 1 with 63 zeros behind it has 63
+  pub depthIsSteps : (a : ℕ) → depth a ≡ length (steps a)
+  pub depthAtMost : (a : ℕ) → IsAddress a → depth a ≤ 63
+  pub depthMet : (depth 1 ≡ 0) × (depth (2 ^ 63) ≡ 63)
+  -- "C .. is a prefix of D", of the root or a router C: in bits there is a rest, and in steps C's begin D's
+  pub prefixes : (cs ds : List Bit) → (isPrefix cs ds ≡ true) ↔ ((rest : List Bit) × (ds ≡ cs ++ rest))
+  pub prefixBySteps : (c d : ℕ) → IsAddress c → IsAddress d → IsRoot c ⊎ IsRouter c
+      → (isPrefix (bits c) (bits d) ≡ true) ↔ AncestorOrSelf (steps c) (steps d)
+  -- "stop at the first 0 or at D's last bit"
+  pub looked : (bs : List Bit) → Stops bs
+
+pub record Children : Type 0 where
+  -- "For the root or a router of n bits each count is 0 to 64-n. For a host both are 0. Any other record is bad."
+  pub goodRecords : (n : Node) → (isGood n ≡ true) ↔ IsGood n
+  -- "Asked for a child, the node hands itself back with one count raised"
+  pub raisesOne : (n : Node) (kind : Kind) → childOf n kind .refusal ≡ 0 → childOf n kind .node ≡ raised kind n
+  -- "and the child's address: own address, then as many ones as the old count of that kind, then 0 for a router or 1 for a host"
+  pub spellsChild : (n : Node) (kind : Kind) → addressIn n < 2 ^ 64 → childOf n kind .refusal ≡ 0
+      → bits (childOf n kind .child .number) ≡ bits (addressIn n) ++ stepBits (child kind (count kind n))
+  -- so a child has one step more, and its parent is the node
+  pub oneStepMore : (n : Node) (kind : Kind) → addressIn n < 2 ^ 64 → childOf n kind .refusal ≡ 0
+      → (steps (childOf n kind .child .number) ≡ child kind (count kind n) ∷ steps (addressIn n))
+      × (parent (childOf n kind .child .number) ≡ addressIn n)
+      × (depth (childOf n kind .child .number) ≡ depth (addressIn n) + 1)
+  -- "The child's own record starts with both counts 0.", and is good
+  pub startsFresh : (a : ℕ) → (fresh a .routers ≡ 0) × (fresh a .hosts ≡ 0) × (addressIn (fresh a) ≡ a)
+  pub freshIsGood : (a : ℕ) → IsAddress a → isGood (fresh a) ≡ true
+  -- a request keeps the record good, refused or not, and its address
+  pub keepsGood : (n : Node) (kind : Kind) → isGood n ≡ true → isGood (childOf n kind .node) ≡ true
+  pub keepsAddress : (n : Node) (kind : Kind) → addressIn (childOf n kind .node) ≡ addressIn n

@@ -1,0 +1,51 @@
+-- Demand 3, sentence by sentence: "Take every list of requests for a child, refused ones included, from a bare root, each node going on from the
+-- record it was last given back, none removed." `rs` is such a list, and `treeOf rs` the tree after it, with the records as they then stand.
+use Prim.Native.Nat.{ℕ, _≤_}
+use mathlib.Core.Path.{_≡_}
+use mathlib.Core.List.{List, _∷_, _++_}
+use Rattle.address.specs.Bits.{root}
+use Rattle.address.specs.Address.{depth}
+use Rattle.address.specs.Numbers.{IsAddress}
+use Rattle.octets.specs.Octets.{AreOctets}
+use Rattle.header.specs.Header.{header}
+use Rattle.node.specs.Node.{childOf}
+use Rattle.packet.specs.Packet.{packetHop}
+use Rattle.route.specs.Path.{path, hops}
+use Rattle.tree.specs.Tree.{Request, Tree, grown, givenIn, addresses, InTree, AllDiffer, Walk}
+use Rattle.tree.specs.Way.{IsPacket, TheWay, deliveredAt, stoppedAt}
+use Rattle.tree.specs.Demand3.{IsAncestor}
+
+abbrev pub treeOf : List Request → Tree
+treeOf rs = grown childOf rs
+
+-- "stops with refusal 7 at the address's deepest ancestor that is in it"
+pub record StopsAtDeepest (rs : List Request) (p : List ℕ) (a d x : ℕ) : Type 0 where
+  pub ancestor : IsAncestor x d
+  pub inTree : InTree x (treeOf rs)
+  -- "The deepest of several is the one with the most steps."
+  pub deepest : (y : ℕ) → IsAncestor y d → InTree y (treeOf rs) → depth y ≤ depth x
+  -- "The nodes it meets are, in order, the path from its start to there."
+  pub theWay : TheWay packetHop (treeOf rs) p a (path a x) (stoppedAt 7 x)
+
+pub record EveryList : Type 0 where
+  -- "The tree after a list is the root and every address given in it without a refusal."
+  pub nodes : (rs : List Request) → addresses (treeOf rs) ≡ root ∷ givenIn childOf rs
+  -- "After it all addresses given differ, the root's among them."
+  pub allDiffer : (rs : List Request) → AllDiffer (root ∷ givenIn childOf rs)
+  -- "every address's header, as written below, with any payload behind it, is one [a packet]"
+  pub packets : (d : ℕ) (payload : List ℕ) → IsAddress d → AreOctets payload → IsPacket (header d ++ payload) d
+  -- "Take any two nodes of that tree, or the same one twice .. a packet for the second's address, started at the first and passed on by our rule,
+  -- is delivered at the second. The nodes it meets are, in order, document 01's path from the first to the second.", and the delivery names the
+  -- second
+  pub arrives : (rs : List Request) (a d : ℕ) (p : List ℕ) → InTree a (treeOf rs) → InTree d (treeOf rs) → IsPacket p d
+      → TheWay packetHop (treeOf rs) p a (path a d) (deliveredAt d d)
+  -- "It keeps to parent and child links"
+  pub overLinks : (rs : List Request) (a d : ℕ) → InTree a (treeOf rs) → InTree d (treeOf rs) → Walk (treeOf rs) a d (path a d)
+  -- "and meets no node twice."
+  pub noNodeTwice : (rs : List Request) (a d : ℕ) → InTree a (treeOf rs) → InTree d (treeOf rs) → AllDiffer (path a d)
+  -- "Every other walk over those links from the first to the second has at least as many hops."
+  pub noShorterWalk : (rs : List Request) (a d : ℕ) (w : List ℕ) → InTree a (treeOf rs) → InTree d (treeOf rs) → Walk (treeOf rs) a d w
+      → hops (path a d) ≤ hops w
+  -- "A packet started at any node, for an address not in that tree, stops with refusal 7 at the address's deepest ancestor that is in it."
+  pub absent : (rs : List Request) (a d : ℕ) (p : List ℕ) → InTree a (treeOf rs) → (InTree d (treeOf rs) → ⊥) → IsPacket p d
+      → (x : ℕ) × StopsAtDeepest rs p a d x

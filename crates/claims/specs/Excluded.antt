@@ -1,0 +1,89 @@
+-- The known values of document 01 that are marked P, and the wrong rules that it names, and some more: each is refuted through the claim that
+-- excludes it.
+use mathlib.Core.List.{List}
+use Rattle.header.specs.Header.{writing, reading}
+use Rattle.header.specs.RoundTrip.{HeaderRoundTrip}
+use Rattle.header.specs.WrongWriters.{silentWriter, refusingWriter, roomlessWriter, spoilingWriter}
+use Rattle.header.specs.WrongReaders.{surplusReader}
+use Rattle.ipv6.specs.Form.{formWriting, formReading}
+use Rattle.ipv6.specs.RoundTrip.{FormRoundTrip}
+use Rattle.ipv6.specs.WrongWriters.{silentFormWriter, refusingFormWriter, shortPrefixWriter, roomlessFormWriter, spoilingFormWriter}
+use Rattle.ipv6.specs.WrongReaders.{surplusFormReader}
+use Rattle.node.specs.Node.{childOf}
+use Rattle.node.specs.Refusals.{ChildRefusals}
+use Rattle.node.specs.WrongRules.{refusesAll, rootIsHost, hostFirst, oneTooMany, shortOfLimit, addressBeside}
+use Rattle.forward.specs.Refusals.{HopRefusals}
+use Rattle.forward.specs.WrongRules.{zeroFirst}
+use Rattle.packet.specs.Packet.{packetHop}
+use Rattle.packet.specs.Refusals.{PacketRefusals}
+use Rattle.packet.specs.WrongRules.{readingFirst}
+use Rattle.known.specs.Known.{AllHold, table}
+use Rattle.tree.specs.Tree.{Request, ChildRule}
+use Rattle.tree.specs.Way.{HopRule}
+use Rattle.tree.specs.Demand3.{Demand3}
+use Rattle.tree.specs.WrongChildren.{sameChild, sharedCount, limitOnParent}
+use Rattle.tree.specs.WrongHops.{refusesEverything, parentToAll, leaps, namesNobody, hostKeeps, hostDelivers, rootAsHost, lowBits, beforeLastBit, oneCount}
+
+-- "Cases marked P are proved, gathered in a single table under one claim."
+pub record KnownValues : Type 0 where
+  pub everyRowHolds : AllHold table
+
+-- demand 3 is false of these rules
+abbrev pub FailsDemand3 : ChildRule → HopRule → Type 0
+FailsDemand3 child hop = ((rs : List Request) → Demand3 child hop rs) → ⊥
+
+pub record WrongNextHops : Type 0 where
+  -- "One that refuses everything, and one that says 'parent' to all"
+  pub thatRefusesEverything : FailsDemand3 childOf refusesEverything
+  pub thatSaysParentToAll : FailsDemand3 childOf parentToAll
+  -- "One that leaps to the destination in its first hop"
+  pub thatLeaps : FailsDemand3 childOf leaps
+  -- "on delivery C itself"
+  pub thatNamesNobody : FailsDemand3 childOf namesNobody
+  -- "Treating a host as the ancestor of every address it prefixes": it refuses, or it delivers
+  pub whereAHostKeeps : FailsDemand3 childOf hostKeeps
+  pub whereAHostDelivers : FailsDemand3 childOf hostDelivers
+  -- "Calling the root a host because it ends in 1."
+  pub whereTheRootIsAHost : FailsDemand3 childOf rootAsHost
+  -- "Comparing C with D's low bits instead of its high bits."
+  pub byLowBits : FailsDemand3 childOf lowBits
+  -- "Skipping ones and stopping before the last bit"
+  pub beforeTheLastBit : FailsDemand3 childOf beforeLastBit
+  -- "using one count for both kinds"
+  pub withOneCount : FailsDemand3 childOf oneCount
+  -- 9 before 1; the reading before 1
+  pub withZeroFirst : HopRefusals zeroFirst → ⊥
+  pub withReadingFirst : PacketRefusals readingFirst → ⊥
+
+pub record WrongChildren : Type 0 where
+  -- "One that hands every child the same address"
+  pub ofOneAddress : FailsDemand3 sameChild packetHop
+  -- "using one count for both kinds"
+  pub withOneCount : FailsDemand3 sharedCount packetHop
+  -- "Testing the length limit on the parent instead of the child"
+  pub withLimitOnParent : FailsDemand3 limitOnParent packetHop
+  -- "One that refuses everything"; "Calling the root a host": demand 3 stays true of the bare root, and demand 1 excludes them
+  pub thatRefusesAll : ChildRefusals refusesAll → ⊥
+  pub whereTheRootIsAHost : ChildRefusals rootIsHost → ⊥
+  -- 2 before 1; a count one too high; a child of 64 bits refused; an address beside a refusal
+  pub withHostFirst : ChildRefusals hostFirst → ⊥
+  pub withOneTooMany : ChildRefusals oneTooMany → ⊥
+  pub shortOfTheLimit : ChildRefusals shortOfLimit → ⊥
+  pub withAnAddressBeside : ChildRefusals addressBeside → ⊥
+
+pub record WrongWriters : Type 0 where
+  -- "One that writes no header yet says done"
+  pub silent : HeaderRoundTrip silentWriter reading → ⊥
+  pub refusing : HeaderRoundTrip refusingWriter reading → ⊥
+  -- one that says done without room; one that spoils what stands behind
+  pub withoutRoom : HeaderRoundTrip roomlessWriter reading → ⊥
+  pub spoiling : HeaderRoundTrip spoilingWriter reading → ⊥
+  -- a reader that takes a longer form
+  pub longerForm : HeaderRoundTrip writing surplusReader → ⊥
+  pub silentForm : FormRoundTrip silentFormWriter formReading → ⊥
+  pub refusingForm : FormRoundTrip refusingFormWriter formReading → ⊥
+  -- one that says done with a prefix of 7 octets
+  pub shortPrefix : FormRoundTrip shortPrefixWriter formReading → ⊥
+  pub formWithoutRoom : FormRoundTrip roomlessFormWriter formReading → ⊥
+  pub spoilingForm : FormRoundTrip spoilingFormWriter formReading → ⊥
+  pub surplusForm : FormRoundTrip formWriting surplusFormReader → ⊥

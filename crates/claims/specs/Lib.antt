@@ -1,0 +1,18 @@
+-- The front page: what is claimed, each sentence of the papers a line of its own with its quantifiers written out, at the definitions that the
+-- functions promise to equal. proofs/ takes each line from the record that carries it. Read in this order:
+-- what an address is
+pub mod Addresses
+-- demand 1: refusals, given exactly when the document says, and nothing beside them
+pub mod Demand1
+-- demand 2: what is written reads back, and what is accepted is what would have been written
+pub mod Demand2
+-- demand 3: every list of requests, every packet
+pub mod Demand3
+-- the path between two addresses, and the path program's line and text
+pub mod Paths
+-- the known values, and the wrong rules that are excluded
+pub mod Excluded
+-- what the code promises is what the claims speak of
+pub mod Code
+-- and what the archive's exports promise
+pub mod Exports
