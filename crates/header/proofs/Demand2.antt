@@ -32,6 +32,10 @@ use Rattle.header.proofs.Writing.{length-header, writing-done}
 
 -- ---- what is written reads back
 
+pub octets-header : {d : ℕ} → IsAddress d → AreOctets (header d)
+unfolding header
+octets-header {d} n = (lit< tt, (omega (arith, size-ge n, size-le (n .fits)), (lit< tt, octets-octets (size d) d)))
+
 -- s octets of which the first unit is not zero have no fault, and the other way round
 zeroFault-none : (s : ℕ) (os : List ℕ) → length os ≡ s → unit ≤ s → AreOctets os → 256 ^ (s - unit) ≤ value os → zeroFault s os ≡ 0
 unfolding zeroFault

@@ -5,6 +5,7 @@ use mathlib.Core.Bool.{Bool, true, false, and-eq-true-iff}
 use mathlib.Core.Logic.{_⊎_, inl, inr, ⊎-elim}
 use mathlib.Core.List.{_∷_}
 use Prim.Native.Nat.{ℕ, suc, _+_, _^_, _≤_, _<_}
+use native.Mathlib.Decide.{ℕ-discrete}
 use native.Mathlib.Omega.{arith}
 use lib.ListN.{length}
 use lib.Dec.{eqb, leb, ltb}
@@ -92,6 +93,29 @@ count-raised-le Router Router n more le = more
 count-raised-le Router Host n more le = le
 count-raised-le Host Router n more le = le
 count-raised-le Host Host n more le = more
+
+pub count-le-raised : (kind other : Kind) (n : Node) → count other n ≤ count other (raised kind n)
+unfolding count raised
+count-le-raised Router Router n = omega arith
+count-le-raised Router Host n = omega arith
+count-le-raised Host Router n = omega arith
+count-le-raised Host Host n = omega arith
+
+last-or-less : (kind : Kind) (j i : ℕ) → j < i + 1 → (j < i) ⊎ (child kind j ≡ child kind i)
+last-or-less kind j i l = go (ℕ-discrete j i)
+  where
+    go : Dec (j ≡ i) → (j < i) ⊎ (child kind j ≡ child kind i)
+    go (yes e) = inr (ap (λ (k : ℕ). child kind k) e)
+    go (no ne) = inl (omega arith)
+
+-- a child that a count raised speaks of is one that the old count spoke of, or the one given
+pub lt-raised : (kind other : Kind) (n : Node) (j : ℕ) → j < count other (raised kind n)
+    → (j < count other n) ⊎ (child other j ≡ child kind (count kind n))
+unfolding count raised
+lt-raised Router Router n j l = last-or-less Router j (n .routers) l
+lt-raised Router Host n j l = inl l
+lt-raised Host Router n j l = inl l
+lt-raised Host Host n j l = last-or-less Host j (n .hosts) l
 
 -- the request for a child
 

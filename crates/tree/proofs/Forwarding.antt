@@ -8,7 +8,6 @@ use mathlib.Core.List.{List, [], _∷_, _++_, append-assoc, Memᴰ·cast}
 use Prim.Native.Nat.{ℕ, _≤_, _<_}
 use native.Mathlib.Nat.{lt-of-not-le}
 use native.Mathlib.Omega.{arith}
-use lib.Dec.{lit<}
 use lib.ListN.{length}
 use Rattle.address.specs.declared.Kind.{Kind}
 use Rattle.address.specs.Bits.{root}
@@ -19,10 +18,9 @@ use Rattle.address.specs.Numbers.{IsAddress}
 use Rattle.address.specs.Ancestors.{AncestorOrSelf}
 use Rattle.address.proofs.Steps.{addressOf-steps, addressOf-root}
 use Rattle.address.proofs.Ancestors.{steps-injective}
-use Rattle.octets.proofs.OctetLaws.{append-octets, octets-octets}
-use Rattle.header.specs.Header.{header, place, size}
-use Rattle.header.proofs.Size.{size-le, size-ge}
-use Rattle.header.proofs.Demand2.{reading-header, header-read}
+use Rattle.octets.proofs.OctetLaws.{append-octets}
+use Rattle.header.specs.Header.{header, place}
+use Rattle.header.proofs.Demand2.{octets-header, reading-header, header-read}
 use Rattle.node.specs.Node.{addressIn, count, isGood}
 use Rattle.node.specs.declared.Node.{Node}
 use Rattle.forward.specs.Forward.{HopAnswer, nextHop}
@@ -208,10 +206,6 @@ absence t sound a d p i out packet = go (nearest-above sound b (steps d) (ancest
     )
 
 -- every header with a payload is a packet
-
-octets-header : {d : ℕ} → IsAddress d → AreOctets (header d)
-unfolding header
-octets-header {d} n = (lit< tt, (omega (arith, size-ge n, size-le (n .fits)), (lit< tt, octets-octets (size d) d)))
 
 pub packets : (d : ℕ) (payload : List ℕ) → IsAddress d → AreOctets payload → IsPacket (header d ++ payload) d
 packets d payload n all = record {

@@ -1,6 +1,6 @@
 -- Every grown tree is sound. The bare root is, and a request keeps a sound tree sound: refused or asked of nobody it changes nothing, and a
 -- child given is the one step that the count raised makes room for, so it is new, hangs from the node asked, and has no children itself.
-use Prim.Native.Nat.{ℕ, suc, _+_, _<_, _≤_}
+use Prim.Native.Nat.{ℕ, suc, _+_, _<_}
 use mathlib.Core.Path.{_≡_, refl, sym, ap, _∙_, subst}
 use mathlib.Core.Bool.{true}
 use mathlib.Core.Logic.{_⊎_, inl, inr, ⊎-elim}
@@ -10,7 +10,6 @@ use native.Mathlib.Omega.{arith}
 use lib.ListN.{length}
 use borrow.Author.Tests.{ne-eqb}
 use Rattle.address.specs.declared.Kind.{Kind}
-use Rattle.address.specs.declared.Kind.the-variants.{Router, Host}
 use Rattle.address.specs.Bits.{number, root}
 use Rattle.address.specs.Steps.{Step, child, steps}
 use Rattle.address.specs.Address.{depth, above, parent}
@@ -19,7 +18,7 @@ use Rattle.address.proofs.Steps.{addressOf-steps, depth-range}
 use Rattle.address.proofs.Ancestors.{steps-injective}
 use Rattle.node.specs.Node.{addressIn, fresh, count, raised, isGood, childBits, refuseChild, childOf}
 use Rattle.node.specs.declared.Node.{Node}
-use Rattle.node.proofs.Children.{addressIn-fresh, count-fresh, addressIn-raised, count-raised, isGood-fresh}
+use Rattle.node.proofs.Children.{count-le-raised, lt-raised, addressIn-fresh, count-fresh, addressIn-raised, count-raised, isGood-fresh}
 use Rattle.node.proofs.Children.{MayGive, childOf-cases, childOf-given, isGood-raised, steps-child, address-child, parent-child}
 use Rattle.tree.specs.Tree.{Request, request, Tree, bareRoot, Record, standing, absent, recordOf, replaced, withChild}
 use Rattle.tree.specs.Tree.{answered, askedOf, ask, grow, grown, addresses, InTree}
@@ -41,29 +40,6 @@ step-root {d} e z = omega (arith, ap length e, ap depth z, depth-range .least)
 parent-step : (d : ℕ) {x : ℕ} {s : Step} → IsAddress x → steps d ≡ s ∷ steps x → parent d ≡ x
 unfolding parent above
 parent-step d a e = rw e (addressOf-steps a)
-
-count-le-raised : (kind other : Kind) (n : Node) → count other n ≤ count other (raised kind n)
-unfolding count raised
-count-le-raised Router Router n = omega arith
-count-le-raised Router Host n = omega arith
-count-le-raised Host Router n = omega arith
-count-le-raised Host Host n = omega arith
-
-last-or-less : (kind : Kind) (j i : ℕ) → j < i + 1 → (j < i) ⊎ (child kind j ≡ child kind i)
-last-or-less kind j i l = go (ℕ-discrete j i)
-  where
-    go : Dec (j ≡ i) → (j < i) ⊎ (child kind j ≡ child kind i)
-    go (yes e) = inr (ap (λ (k : ℕ). child kind k) e)
-    go (no ne) = inl (omega arith)
-
--- a child that a count raised speaks of is one that the old count spoke of, or the one given
-lt-raised : (kind other : Kind) (n : Node) (j : ℕ) → j < count other (raised kind n)
-    → (j < count other n) ⊎ (child other j ≡ child kind (count kind n))
-unfolding count raised
-lt-raised Router Router n j l = last-or-less Router j (n .routers) l
-lt-raised Router Host n j l = inl l
-lt-raised Host Router n j l = inl l
-lt-raised Host Host n j l = last-or-less Host j (n .hosts) l
 
 -- ---- the bare root
 
