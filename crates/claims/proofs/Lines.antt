@@ -63,7 +63,7 @@ use Rattle.claims.specs.Demand1.{ExactlyWhen, NothingBeside, OnlyTheName
 use Rattle.claims.specs.Demand2.{Headers, Forms}
 use Rattle.claims.specs.Demand3.{treeOf, EveryList}
 use Rattle.claims.specs.Paths.{ThePath, TheLine}
-use Rattle.claims.specs.Excluded.{KnownValues, WrongNextHops, WrongChildren, WrongWriters}
+use Rattle.claims.specs.Excluded.{KnownRows, WrongNextHops, WrongChildren, WrongWriters}
 use Rattle.claims.specs.Code.{AsksNothing, AnswersAsDefined}
 use Rattle.claims.specs.Exports.{ExportsAskNothing, ExportsAnswerAsDefined}
 
@@ -227,8 +227,8 @@ the-line = record {
 
 -- ---- known values and wrong rules
 
-pub known : KnownValues
-known = record { everyRowHolds = known-values }
+pub known-rows : KnownRows
+known-rows = record { everyRowHolds = known-values }
 
 pub wrong-next-hops : WrongNextHops
 wrong-next-hops = record {

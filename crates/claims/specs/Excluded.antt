@@ -25,7 +25,7 @@ use Rattle.tree.specs.WrongChildren.{sameChild, sharedCount, limitOnParent}
 use Rattle.tree.specs.WrongHops.{refusesEverything, parentToAll, leaps, namesNobody, hostKeeps, hostDelivers, rootAsHost, lowBits, beforeLastBit, oneCount}
 
 -- "Cases marked P are proved, gathered in a single table under one claim."
-pub record KnownValues : Type 0 where
+pub record KnownRows : Type 0 where
   pub everyRowHolds : AllHold table
 
 -- demand 3 is false of these rules

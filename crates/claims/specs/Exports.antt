@@ -1,10 +1,9 @@
 -- What the exports of the archive promise: each asks nothing, and answers what the function below it is defined to answer, in a struct of plain
 -- numbers with the same names (crates/pasa/specs, and of the next hops crates/batch/specs).
 use mathlib.Core.Path.{_≡_}
-use mathlib.Core.List.{List}
 use Prim.Native.Nat.{ℕ}
 use contract.Lifetimes.{Lfts}
-use denote.Ref.{RefT, now}
+use denote.Ref.{now}
 use Rattle.address.specs.declared.Kind.the-variants.{Router, Host}
 use Rattle.node.specs.Node.{fresh, childOf}
 use Rattle.header.specs.Header.{writing, reading}
@@ -12,6 +11,7 @@ use Rattle.ipv6.specs.Form.{formWriting, formReading}
 use Rattle.forward.specs.Forward.{nextHop}
 use Rattle.packet.specs.Packet.{packetHop}
 use Rattle.route.specs.Path.{listing}
+use Rattle.claims.specs.Code.{Slice}
 use Rattle.pasa.specs.declared.bytes.PasaWritten.{PasaWritten}
 use Rattle.pasa.specs.declared.bytes.PasaRead.{PasaRead}
 use Rattle.pasa.specs.declared.bytes.PasaAddress.{PasaAddress}
@@ -42,10 +42,6 @@ use Rattle.pasa.proofs.addresses.pasa_depth.Reads as depth-reads
 use Rattle.pasa.proofs.addresses.pasa_bit_length.Reads as bit-length-reads
 use Rattle.pasa.proofs.addresses.pasa_is_host.Reads as is-host-reads
 use Rattle.pasa.proofs.addresses.pasa_interface_1.Reads as interface-reads
-
--- a lent slice
-abbrev pub Slice : Type 0
-Slice = RefT (List ℕ)
 
 pub record ExportsAskNothing : Type 0 where
   pub pasaFresh : (a : ℕ) → fresh-reads.Asked tt (a, tt)

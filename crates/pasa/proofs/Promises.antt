@@ -7,6 +7,7 @@ use contract.Lifetimes.{Lfts}
 use denote.Ref.{RefT, now}
 use Rattle.address.specs.declared.Kind.the-variants.{Router, Host}
 use Rattle.node.specs.Node.{fresh, childOf}
+use Rattle.node.specs.declared.Node.{Node}
 use Rattle.header.specs.Header.{writing, reading}
 use Rattle.ipv6.specs.Form.{formWriting, formReading}
 use Rattle.forward.specs.Forward.{nextHop}
@@ -22,6 +23,7 @@ use Rattle.batch.specs.Exported.{pasaHop}
 use Rattle.batch.specs.Batch.{BatchEffect, nextHops}
 use Rattle.pasa.specs.Bytes.{pasaWritten, pasaRead, pasaAddress}
 use Rattle.pasa.specs.Paths.{pasaListed}
+use Rattle.pasa.proofs.children.node_of.Reads as node-of-reads
 use Rattle.pasa.proofs.children.pasa_fresh.Reads as fresh-reads
 use Rattle.pasa.proofs.children.pasa_child_router.Reads as child-router-reads
 use Rattle.pasa.proofs.children.pasa_child_host.Reads as child-host-reads
@@ -37,6 +39,9 @@ use Rattle.pasa.proofs.paths.pasa_path.Reads as path-reads
 -- a lent slice
 abbrev Slice : Type 0
 Slice = RefT (List ℕ)
+
+pub node-of-promise : (n : PasaNode) (r : Node) → node-of-reads.Learnt tt (n, tt) r (n, tt) → r ≡ nodeOf n
+node-of-promise n r h = h
 
 pub fresh-promise : (a : ℕ) (r : PasaNode) → fresh-reads.Learnt tt (a, tt) r (a, tt) → r ≡ pasaNode (fresh a)
 fresh-promise a r h = h
@@ -87,6 +92,9 @@ pub path-promise : (κs : Lfts 1) (a d : ℕ) (words last : Slice) (r : PasaList
 path-promise κs a d words last r h = h
 
 -- ---- no export asks anything of its caller
+
+pub node-of-asks-nothing : (n : PasaNode) → node-of-reads.Asked tt (n, tt)
+node-of-asks-nothing n = tt
 
 pub fresh-asks-nothing : (a : ℕ) → fresh-reads.Asked tt (a, tt)
 fresh-asks-nothing a = tt
