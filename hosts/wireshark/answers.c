@@ -1,10 +1,11 @@
 /* What libpasa.a answers to packets, for hosts/wireshark/check: a packet in hexadecimal digits on each line of standard input, an answer on
  * each line of standard output:
  *
- *     REFUSAL ADDRESS PLACE CHECKED STEP NODE STEP NODE ..
+ *     REFUSAL ADDRESS PLACE CHECKED PARENT DEPTH LENGTH HOST STEP NODE STEP NODE ..
  *
- * ADDRESS and NODE in hexadecimal digits. CHECKED says how many of the first three octets the reading looked at. Without a refusal there
- * follow the address's steps, such as router:0, each with the node that it leads to; the last node is the address. */
+ * ADDRESS, PARENT and NODE in hexadecimal digits. CHECKED says how many of the first three octets the reading looked at. LENGTH is the
+ * address's in bits, and HOST is 1 for a host. Without a refusal there follow the address's steps, such as router:0, each with the node that it
+ * leads to; the last node is the address. */
 #include <inttypes.h>
 #include <stdio.h>
 #include <stdlib.h>
@@ -95,6 +96,8 @@ static void print_answer(const uint8_t *packet, size_t length)
 {
     struct pasa_read read = pasa_header_read(packet, length);
     printf("%u %" PRIx64 " %zu %zu", read.refusal, read.address, read.place, checked(packet, length));
+    printf(" %" PRIx64 " %" PRIu32 " %" PRIu32 " %u", pasa_parent(read.address), pasa_depth(read.address), pasa_bit_length(read.address),
+           pasa_is_host(read.address));
     if (read.refusal == PASA_DONE) {
         print_steps(read.address);
     }
