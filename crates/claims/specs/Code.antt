@@ -21,7 +21,7 @@ use Rattle.forward.specs.Forward.{hopAnswer, nextHop}
 use Rattle.packet.specs.Packet.{packetHop}
 use Rattle.route.specs.declared.Listed.{Listed}
 use Rattle.route.specs.Path.{listing}
-use Rattle.line.specs.Line.{reply}
+use Rattle.line.specs.Line.{answering}
 use Rattle.address.proofs.Address.new.Reads as new-reads
 use Rattle.node.proofs.Node.fresh.Reads as fresh-reads
 use Rattle.node.proofs.Node.child.Reads as child-reads
@@ -71,4 +71,4 @@ pub record AnswersAsDefined : Type 0 where
       → path-reads.Learnt κs (a, (d, (words, tt))) r (a, (d, (words′, tt)))
       → (r ≡ listing (a .number) (d .number) (now words) .answer) × (now words′ ≡ listing (a .number) (d .number) (now words) .words)
   pub lineAnswer : (κs : Lfts 2) (input out out′ : Slice) (r : Written) → line-reads.Learnt κs (input, (out, tt)) r (input, (out′, tt))
-      → (r ≡ reply (now input) (now out) .answer) × (now out′ ≡ reply (now input) (now out) .buffer)
+      → (r ≡ answering (now input) (now out) .answer) × (now out′ ≡ answering (now input) (now out) .buffer)

@@ -23,7 +23,7 @@ use Rattle.packet.specs.Packet.{packetHop}
 use Rattle.packet.specs.Refusals.{packetOrder}
 use Rattle.route.specs.Path.{path, listing}
 use Rattle.route.specs.Refusals.{pathOrder}
-use Rattle.line.specs.Line.{outputText, reply}
+use Rattle.line.specs.Line.{outputText, answering}
 use Rattle.line.specs.Refusals.{answerOrder}
 
 -- "is given exactly when that document says"
@@ -48,7 +48,7 @@ pub record ExactlyWhen : Type 0 where
   -- "For a path 9, 10."
   pub aPath : (a d : ℕ) (words : List ℕ) → GivenExactly (pathOrder a d words) (listing a d words .answer .refusal)
   -- the path program's work: 10 where the lent output is too short; 11 is its text (Paths)
-  pub aLine : (input out : List ℕ) → GivenExactly (answerOrder input out) (reply input out .answer .refusal)
+  pub aLine : (input out : List ℕ) → GivenExactly (answerOrder input out) (answering input out .answer .refusal)
 
 -- "With any refusal the address, place, hop count and every other number returned beside its own are 0, a returned record is the one handed in,
 -- and no byte or word lent is changed."
@@ -65,7 +65,7 @@ pub record NothingBeside : Type 0 where
   pub aFormBack : (prefix ipv6 : List ℕ) → (formReading prefix ipv6 .refusal ≡ 0 → ⊥) → formReading prefix ipv6 .address ≡ 0
   pub aPath : (a d : ℕ) (words : List ℕ) → (listing a d words .answer .refusal ≡ 0 → ⊥)
       → (listing a d words .answer .hops ≡ 0) × (listing a d words .words ≡ words)
-  pub aLine : (input out : List ℕ) → (reply input out .answer .refusal ≡ 0 → ⊥) → (reply input out .answer .count ≡ 0) × (reply input out .buffer ≡ out)
+  pub aLine : (input out : List ℕ) → (answering input out .answer .refusal ≡ 0 → ⊥) → (answering input out .answer .count ≡ 0) × (answering input out .buffer ≡ out)
 
 -- "On success only the words or octets named are written.": they stand in front, what is lent goes on behind them as it was
 pub record OnlyTheNamed : Type 0 where
@@ -76,5 +76,5 @@ pub record OnlyTheNamed : Type 0 where
       × (formWriting prefix a buffer .buffer ≡ form prefix a ++ drop (length (form prefix a)) buffer)
   pub aPath : (a d : ℕ) (words : List ℕ) → listing a d words .answer .refusal ≡ 0
       → listing a d words .words ≡ path a d ++ drop (length (path a d)) words
-  pub aLine : (input out : List ℕ) → reply input out .answer .refusal ≡ 0
-      → (reply input out .answer .count ≡ length (outputText input)) × (reply input out .buffer ≡ outputText input ++ drop (length (outputText input)) out)
+  pub aLine : (input out : List ℕ) → answering input out .answer .refusal ≡ 0
+      → (answering input out .answer .count ≡ length (outputText input)) × (answering input out .buffer ≡ outputText input ++ drop (length (outputText input)) out)

@@ -9,7 +9,7 @@ use Rattle.address.specs.Steps.{Step, steps}
 use Rattle.address.specs.Numbers.{IsAddress}
 use Rattle.address.specs.Ancestors.{AncestorOrSelf}
 use Rattle.route.specs.Path.{sameSteps, isAncestorOrSelf, turn, path, hops, listing}
-use Rattle.line.specs.Line.{asked, between, decimal, refusedText, pathText, outputText}
+use Rattle.line.specs.Line.{parsed, between, decimal, refusedText, pathText, outputText}
 use Rattle.line.specs.Exactly.{lineOf, IsLine, room}
 use Rattle.line.specs.Decimal.{decimalValue}
 use Rattle.line.specs.Edge.{longestLine}
@@ -28,7 +28,7 @@ pub record ThePath : Type 0 where
 pub record TheLine : Type 0 where
   -- "It reads one line from standard input: two addresses in binary digits, one space between, a newline, nothing after."
   pub answers : (a d : ℕ) → IsAddress a → IsAddress d → outputText (lineOf a d) ≡ pathText (path a d)
-  pub reads : (input : List ℕ) (a d : ℕ) → asked input ≡ between a d → IsAddress a × IsAddress d × (input ≡ lineOf a d)
+  pub reads : (input : List ℕ) (a d : ℕ) → parsed input ≡ between a d → IsAddress a × IsAddress d × (input ≡ lineOf a d)
   -- "Anything else, a leading zero or a 65th digit included, prints `refused 11` and a newline and no more."
   pub refuses : (input : List ℕ) → (outputText input ≡ refusedText) ↔ (IsLine input → ⊥)
   pub noThird : (input : List ℕ) → IsLine input ⊎ (outputText input ≡ refusedText)

@@ -17,10 +17,10 @@ use Rattle.address.proofs.Numbers.{bits-string, bits-number, number-bits, numbe
 use Rattle.octets.proofs.SameLaws.{same-refl, same-true}
 use Rattle.route.specs.Path.{path}
 use Rattle.route.proofs.Length.{at-most-126}
-use Rattle.line.specs.Line.{digitZero, digitOne, space, newline, isDigit, digitsOf, afterDigits, areAddress, afterSpace, Asked, between, unreadable, asked, digitText, addressText, refusedText, textFor, outputText}
+use Rattle.line.specs.Line.{digitZero, digitOne, space, newline, isDigit, digitsOf, afterDigits, areAddress, afterSpace, Parsed, between, unreadable, parsed, digitText, addressText, refusedText, textFor, outputText}
 use Rattle.line.specs.Exactly.{lineOf, ExactlyTheLine, OutputFits}
 use Rattle.line.proofs.Texts.{length-pathText-le}
-use Rattle.line.proofs.Asked.{areAddress-string, string-areAddress}
+use Rattle.line.proofs.Parsed.{areAddress-string, string-areAddress}
 
 -- ---- what is written is read
 
@@ -35,10 +35,10 @@ module _ (o : ℕ) (os : List ℕ) (e : isDigit o ≡ false) where
   unfolding afterDigits
   afterDigits-digits bs = rw (digitsOf-digits bs) (drop-at (map digitText bs) (o ∷ os) (length bs) (length-map bs digitText))
 
-asked-digits : (bs cs : List Bit) → IsAddressString bs → IsAddressString cs
-    → asked (map digitText bs ++ (space ∷ (map digitText cs ++ (newline ∷ [])))) ≡ between (number bs) (number cs)
-unfolding asked afterSpace
-asked-digits bs cs s t =
+parsed-digits : (bs cs : List Bit) → IsAddressString bs → IsAddressString cs
+    → parsed (map digitText bs ++ (space ∷ (map digitText cs ++ (newline ∷ [])))) ≡ between (number bs) (number cs)
+unfolding parsed afterSpace
+parsed-digits bs cs s t =
     let rest = map digitText cs ++ (newline ∷ []) in
     rw (
       digitsOf-digits space rest refl bs,
@@ -104,9 +104,9 @@ module _ (input : List ℕ) (a d : ℕ) where
       record { first = both .0; second = both .1; end = same-true (afterDigits behind) (newline ∷ []) (all .1); from = cc; to = cc }
   tests-read false p q = let z : _≡_ {A = ℕ} 0 1 = cc in absurd (omega arith)
 
-  asked-read : asked input ≡ between a d → Read input a d
-  unfolding asked
-  asked-read e = tests-read tests refl e
+  parsed-read : parsed input ≡ between a d → Read input a d
+  unfolding parsed
+  parsed-read e = tests-read tests refl e
 
   module _ (r : Read input a d) where
     read-line : input ≡ lineOf a d
@@ -125,22 +125,22 @@ module _ (input : List ℕ) (a d : ℕ) where
     read-second : IsAddress d
     read-second = subst IsAddress (r .to) (number-address (areAddress-string (digitsOf behind) (r .second)))
 
-asked-line : (a d : ℕ) → IsAddress a → IsAddress d → asked (lineOf a d) ≡ between a d
+parsed-line : (a d : ℕ) → IsAddress a → IsAddress d → parsed (lineOf a d) ≡ between a d
 unfolding lineOf addressText
-asked-line a d h l =
-    simp append-assoc (asked-digits (bits a) (bits d) (bits-string h) (bits-string l) ∙ ap₂ between (number-bits (h .fits)) (number-bits (l .fits)))
+parsed-line a d h l =
+    simp append-assoc (parsed-digits (bits a) (bits d) (bits-string h) (bits-string l) ∙ ap₂ between (number-bits (h .fits)) (number-bits (l .fits)))
 
 pub exactly-the-line : ExactlyTheLine
 exactly-the-line = record {
-  reads = asked-line;
-  only = λ input a d e. let r = asked-read input a d e in (read-first input a d r, read-second input a d r, read-line input a d r);
+  reads = parsed-line;
+  only = λ input a d e. let r = parsed-read input a d e in (read-first input a d r, read-second input a d r, read-line input a d r);
 }
 
 pub output-fits : OutputFits
 unfolding outputText textFor refusedText
-output-fits input = go (asked input) refl
+output-fits input = go (parsed input) refl
   where
-    go : (q : Asked) → asked input ≡ q → length (textFor q) ≤ 8200
+    go : (q : Parsed) → parsed input ≡ q → length (textFor q) ≤ 8200
     go (between a d) e =
         let ends = exactly-the-line .only input a d e in
         length-pathText-le (path a d) (at-most-126 a d (ends .0) (ends .1))

@@ -2,7 +2,7 @@
 mod Stores
 mod Texts
 mod Digits
-mod Asked
+mod Parsed
 pub mod Replies
 pub mod Exact
 pub mod RefusalLaws

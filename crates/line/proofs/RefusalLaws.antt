@@ -15,7 +15,7 @@ use Rattle.address.specs.Numbers.{IsAddress}
 use Rattle.address.proofs.OrderLaws.{given-exactly, first-if}
 use Rattle.octets.specs.Octets.{WriteEffect, refuseWriting, write}
 use Rattle.route.specs.Path.{path}
-use Rattle.line.specs.Line.{Asked, between, unreadable, asked, hopsText, refusedText, pathText, textFor, outputText, reply}
+use Rattle.line.specs.Line.{Parsed, between, unreadable, parsed, hopsText, refusedText, pathText, textFor, outputText, answering}
 use Rattle.line.specs.Exactly.{lineOf, IsLine}
 use Rattle.line.specs.Refusals.{LineRefusals, answerOrder, AnswerRefusals}
 use Rattle.line.proofs.Exact.{exactly-the-line}
@@ -32,9 +32,9 @@ outputText-line a d h l = rw (exactly-the-line .reads a d h l)
 
 outputText-either : (input : List ℕ) → IsLine input ⊎ (outputText input ≡ refusedText)
 unfolding outputText textFor
-outputText-either input = go (asked input) refl
+outputText-either input = go (parsed input) refl
   where
-    go : (q : Asked) → asked input ≡ q → IsLine input ⊎ (textFor q ≡ refusedText)
+    go : (q : Parsed) → parsed input ≡ q → IsLine input ⊎ (textFor q ≡ refusedText)
     go (between a d) e =
         let ends = exactly-the-line .only input a d e in
         inl (record { first = a; second = d; addresses = (ends .0, ends .1); spelled = ends .2 })
@@ -67,27 +67,27 @@ module _ (input out : List ℕ) where
   abbrev effect : Bool → WriteEffect
   effect t = if t then refuseWriting 10 out else write text out
 
-  reply-given : GivenExactly (answerOrder input out) (reply input out .answer .refusal)
-  unfolding reply refuseWriting write
-  reply-given = given-exactly (answerOrder input out)
+  answering-given : GivenExactly (answerOrder input out) (answering input out .answer .refusal)
+  unfolding answering refuseWriting write
+  answering-given = given-exactly (answerOrder input out)
       (first-if (λ (e : WriteEffect). e .answer .refusal) short (refuseWriting 10 out) (write text out) done refl
       (ltb-true (length out) (length text)) (λ f. (λ l. omega (arith, ltb-false (length out) (length text) f), refl)))
 
-  reply-beside : (t : Bool) → (effect t .answer .refusal ≡ 0 → ⊥) → (effect t .answer .count ≡ 0) × (effect t .buffer ≡ out)
+  answering-beside : (t : Bool) → (effect t .answer .refusal ≡ 0 → ⊥) → (effect t .answer .count ≡ 0) × (effect t .buffer ≡ out)
   unfolding refuseWriting write
-  reply-beside true h = (refl, refl)
-  reply-beside false h = absurd (h refl)
+  answering-beside true h = (refl, refl)
+  answering-beside false h = absurd (h refl)
 
-  reply-without : (t : Bool) → effect t .answer .refusal ≡ 0
+  answering-without : (t : Bool) → effect t .answer .refusal ≡ 0
       → (effect t .answer .count ≡ length text) × (effect t .buffer ≡ text ++ drop (length text) out)
   unfolding refuseWriting write
-  reply-without true e = absurd (omega arith)
-  reply-without false e = (refl, refl)
+  answering-without true e = absurd (omega arith)
+  answering-without false e = (refl, refl)
 
 pub answer-refusals : AnswerRefusals
-unfolding reply
+unfolding answering
 answer-refusals = record {
-  given = reply-given;
-  beside = λ input out. reply-beside input out (short input out);
-  without = λ input out. reply-without input out (short input out);
+  given = answering-given;
+  beside = λ input out. answering-beside input out (short input out);
+  without = λ input out. answering-without input out (short input out);
 }

@@ -15,7 +15,7 @@ use Rattle.address.specs.Numbers.{IsAddress}
 use Rattle.route.specs.Path.{path, hops, listing}
 use Rattle.route.proofs.PathLaws.{hops-path}
 use Rattle.route.proofs.Length.{at-most-126}
-use Rattle.line.specs.Line.{asked, between, unreadable, refusedText, pathText, textFor, outputText, reply}
+use Rattle.line.specs.Line.{parsed, between, unreadable, refusedText, pathText, textFor, outputText, answering}
 
 module _ {a d m n : ℕ} (h : IsAddress a) (l : IsAddress d) (p : m ≡ a) (q : n ≡ d) (words : List ℕ) (room : length words ≡ 126) where
   done : listing m n words ≡ record { answer = record { refusal = 0; hops = hops (path a d) }; words = path a d ++ drop (length (path a d)) words }
@@ -30,24 +30,24 @@ module _ {a d m n : ℕ} (h : IsAddress a) (l : IsAddress d) (p : m ≡ a) (q : 
   listing-words = rw done (take-at (path a d) (drop (length (path a d)) words) (hops (path a d) + 1) (sym (hops-path a d)))
 
 module _ (input out : List ℕ) where
-  pub reply-unreadable : asked input ≡ unreadable
-      → reply input out ≡ (if ltb (length out) (length refusedText) then refuseWriting 10 out else write refusedText out)
-  unfolding reply outputText textFor
-  reply-unreadable e = rw e
+  pub answering-unreadable : parsed input ≡ unreadable
+      → answering input out ≡ (if ltb (length out) (length refusedText) then refuseWriting 10 out else write refusedText out)
+  unfolding answering outputText textFor
+  answering-unreadable e = rw e
 
-  pub reply-between : {a d : ℕ} → asked input ≡ between a d
-      → reply input out ≡ (if ltb (length out) (length (pathText (path a d))) then refuseWriting 10 out else write (pathText (path a d)) out)
-  unfolding reply outputText textFor
-  reply-between e = rw e
+  pub answering-between : {a d : ℕ} → parsed input ≡ between a d
+      → answering input out ≡ (if ltb (length out) (length (pathText (path a d))) then refuseWriting 10 out else write (pathText (path a d)) out)
+  unfolding answering outputText textFor
+  answering-between e = rw e
 
   -- answer and output, each by itself
-  pub reply-parts : {w : Written} {last : List ℕ} → _≡_ {A = WriteEffect} (record { answer = w; buffer = last }) (reply input out)
-      → (w ≡ reply input out .answer) × (last ≡ reply input out .buffer)
-  reply-parts e = (ap (λ (f : WriteEffect). f .answer) e, ap (λ (f : WriteEffect). f .buffer) e)
+  pub answering-parts : {w : Written} {last : List ℕ} → _≡_ {A = WriteEffect} (record { answer = w; buffer = last }) (answering input out)
+      → (w ≡ answering input out .answer) × (last ≡ answering input out .buffer)
+  answering-parts e = (ap (λ (f : WriteEffect). f .answer) e, ap (λ (f : WriteEffect). f .buffer) e)
 
-pub reply-fits : (input out : List ℕ) → reply input out .answer .count ≤ length out
-unfolding reply refuseWriting write
-reply-fits input out = go (ltb (length out) (length (outputText input))) refl
+pub answering-fits : (input out : List ℕ) → answering input out .answer .count ≤ length out
+unfolding answering refuseWriting write
+answering-fits input out = go (ltb (length out) (length (outputText input))) refl
   where
     go : (t : Bool) → ltb (length out) (length (outputText input)) ≡ t
         → (if t then refuseWriting 10 out else write (outputText input) out) .answer .count ≤ length out

@@ -4,7 +4,7 @@ use mathlib.Core.List.{List, [], _∷_, _++_}
 use Prim.Native.Nat.{ℕ, _≤_}
 use lib.ListN.{length}
 use Rattle.address.specs.Numbers.{IsAddress}
-use Rattle.line.specs.Line.{asked, between, addressText, space, newline, outputText}
+use Rattle.line.specs.Line.{parsed, between, addressText, space, newline, outputText}
 
 -- "two addresses in binary digits, one space between, a newline, nothing after"
 unfoldable pub lineOf : ℕ → ℕ → List ℕ
@@ -18,8 +18,8 @@ pub record IsLine (input : List ℕ) : Type 0 where
   pub spelled : input ≡ lineOf first second
 
 pub record ExactlyTheLine : Type 0 where
-  pub reads : (a d : ℕ) → IsAddress a → IsAddress d → asked (lineOf a d) ≡ between a d
-  pub only : (input : List ℕ) (a d : ℕ) → asked input ≡ between a d → IsAddress a × IsAddress d × (input ≡ lineOf a d)
+  pub reads : (a d : ℕ) → IsAddress a → IsAddress d → parsed (lineOf a d) ≡ between a d
+  pub only : (input : List ℕ) (a d : ℕ) → parsed input ≡ between a d → IsAddress a × IsAddress d × (input ≡ lineOf a d)
 
 -- the room that every output fits
 abbrev pub room : ℕ

@@ -49,13 +49,13 @@ afterSpace [] = []
 afterSpace (o ∷ os) = if eqb o space then os else []
 
 -- what the input asks for
-pub data Asked : Type 0 where
-  between : ℕ → ℕ → Asked
-  unreadable : Asked
+pub data Parsed : Type 0 where
+  between : ℕ → ℕ → Parsed
+  unreadable : Parsed
 
 -- the two addresses in a line
-unfoldable pub asked : List ℕ → Asked
-asked input =
+unfoldable pub parsed : List ℕ → Parsed
+parsed input =
     if areAddress (digitsOf input)
     && areAddress (digitsOf (afterSpace (afterDigits input)))
     && same (afterDigits (afterSpace (afterDigits input))) (newline ∷ [])
@@ -96,15 +96,15 @@ refusedText = 114 ∷ 101 ∷ 102 ∷ 117 ∷ 115 ∷ 101 ∷ 100 ∷ 32 ∷ 49 
 unfoldable pub pathText : List ℕ → List ℕ
 pathText p = hopsText ++ decimal (hops p) ++ (newline ∷ []) ++ lines p
 
-unfoldable pub textFor : Asked → List ℕ
+unfoldable pub textFor : Parsed → List ℕ
 textFor (between a d) = pathText (path a d)
 textFor unreadable = refusedText
 
 unfoldable pub outputText : List ℕ → List ℕ
-outputText input = textFor (asked input)
+outputText input = textFor (parsed input)
 
 -- What the function comes to: the text goes to the front of the lent output, which must have room for it (10).
-unfoldable pub reply : List ℕ → List ℕ → WriteEffect
-reply input out =
+unfoldable pub answering : List ℕ → List ℕ → WriteEffect
+answering input out =
     if ltb (length out) (length (outputText input)) then refuseWriting 10 out
     else write (outputText input) out

@@ -7,7 +7,7 @@ use lib.ListN.{length, drop}
 use Rattle.address.specs.Order.{Order, done, _when_otherwise_, GivenExactly}
 use Rattle.address.specs.Numbers.{IsAddress}
 use Rattle.route.specs.Path.{path}
-use Rattle.line.specs.Line.{refusedText, pathText, outputText, reply}
+use Rattle.line.specs.Line.{refusedText, pathText, outputText, answering}
 use Rattle.line.specs.Exactly.{lineOf, IsLine}
 
 pub record LineRefusals : Type 0 where
@@ -27,11 +27,11 @@ answerOrder input out =
     otherwise done
 
 pub record AnswerRefusals : Type 0 where
-  pub given : (input out : List ℕ) → GivenExactly (answerOrder input out) (reply input out .answer .refusal)
+  pub given : (input out : List ℕ) → GivenExactly (answerOrder input out) (answering input out .answer .refusal)
   -- "With any refusal .. every other number returned beside its own [is] 0 .. and no byte or word lent is changed."
-  pub beside : (input out : List ℕ) → (reply input out .answer .refusal ≡ 0 → ⊥)
-      → (reply input out .answer .count ≡ 0) × (reply input out .buffer ≡ out)
+  pub beside : (input out : List ℕ) → (answering input out .answer .refusal ≡ 0 → ⊥)
+      → (answering input out .answer .count ≡ 0) × (answering input out .buffer ≡ out)
   -- and without one the whole text is in front: "On success only the words or octets named are written."
-  pub without : (input out : List ℕ) → reply input out .answer .refusal ≡ 0
-      → (reply input out .answer .count ≡ length (outputText input))
-      × (reply input out .buffer ≡ outputText input ++ drop (length (outputText input)) out)
+  pub without : (input out : List ℕ) → answering input out .answer .refusal ≡ 0
+      → (answering input out .answer .count ≡ length (outputText input))
+      × (answering input out .buffer ≡ outputText input ++ drop (length (outputText input)) out)

@@ -11,7 +11,7 @@ ghost use lib.Dec.{ltb};
 ghost use Rattle.address.specs.Choice.{if_then_else_};
 ghost use Rattle.octets.specs.Octets.{WriteEffect, refuseWriting, write};
 ghost use Rattle.route.specs.Path.{path};
-ghost use Rattle.line.specs.Line.{refusedText, pathText, reply};
+ghost use Rattle.line.specs.Line.{refusedText, pathText, answering};
 ghost use Rattle.line.specs.Exactly.{room};
 ghost use Rattle.line.specs.Edge.{window};
 
@@ -77,7 +77,7 @@ fn report(first: u64, second: u64, out: &mut [u8]) -> Written
 
 // Writes the program's whole output for an input to the front of the lent octets.
 pub fn answer(input: &[u8], out: &mut [u8]) -> Written
-    ensures { λ r. ⌜ (r ≡ reply (now (input .entry)) (now (out .entry)) .answer) × (now (out .exit) ≡ reply (now (input .entry)) (now (out .entry)) .buffer) ⌝ }
+    ensures { λ r. ⌜ (r ≡ answering (now (input .entry)) (now (out .entry)) .answer) × (now (out .exit) ≡ answering (now (input .entry)) (now (out .entry)) .buffer) ⌝ }
 {
     let ends = read::read_line(input);
     if ends.first == 0 {

@@ -6,7 +6,7 @@ ghost use lib.ListN.{length, drop};
 ghost use lib.Dec.{eqb};
 ghost use Rattle.address.specs.Choice.{if_then_else_};
 ghost use Rattle.address.specs.Bits.{number as valueOf};
-ghost use Rattle.line.specs.Line.{digitsOf, areAddress, asked, between, unreadable};
+ghost use Rattle.line.specs.Line.{digitsOf, areAddress, parsed, between, unreadable};
 
 // The most digits that an address has.
 const LONGEST: usize = Address::LONGEST as usize;
@@ -70,7 +70,7 @@ fn address_at(text: &[u8], from: usize) -> Run
 
 // The two addresses that the input asks for.
 pub(crate) fn read_line(input: &[u8]) -> Ends
-    ensures { λ r. ⌜ asked (now (input .entry)) ≡ (if eqb (r .first) 0 then unreadable else between (r .first) (r .second)) ⌝ }
+    ensures { λ r. ⌜ parsed (now (input .entry)) ≡ (if eqb (r .first) 0 then unreadable else between (r .first) (r .second)) ⌝ }
 {
     let first = address_at(input, 0);
     let middle = first.end;

@@ -8,11 +8,11 @@ use Rattle.address.specs.declared.Kind.{Kind}
 use Rattle.address.specs.declared.Kind.the-variants.{Router, Host}
 use Rattle.node.specs.Node.{Node, Given, fresh, withCounts, count, raised, isGood, childBits, refuseChild, childOf}
 use Rattle.node.specs.Refusals.{ChildRefusals}
-use Rattle.node.specs.WrongRules.{gives, refusesAll, rootIsHost, hostFirst, oneTooMany, shortOfLimit, addressBeside}
+use Rattle.node.specs.WrongRules.{givesChild, refusesAll, rootIsHost, hostFirst, oneTooMany, shortOfLimit, addressBeside}
 use Rattle.node.proofs.RefusalLaws.{child-refusals}
 
 opened : Unit {0}
-unfolding lastBit bitsIn bits digit numberFrom number lastOf stepBits bitLength endsInOne isHost fresh withCounts count raised isGood childBits refuseChild childOf gives
+unfolding lastBit bitsIn bits digit numberFrom number lastOf stepBits bitLength endsInOne isHost fresh withCounts count raised isGood childBits refuseChild childOf givesChild
 opened = tt
 
 -- the statement allows one number at each record

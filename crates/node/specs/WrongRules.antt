@@ -11,8 +11,8 @@ use Rattle.address.specs.declared.Kind.{Kind}
 use Rattle.node.specs.Node.{Node, Given, addressIn, addressAt, raised, isGood, childBits, refuseChild, childOf}
 
 -- the child, where nothing speaks against it
-unfoldable pub gives : Node → Kind → Given
-gives n kind = record { node = raised kind n; child = addressAt (number (childBits n kind)); refusal = 0 }
+unfoldable pub givesChild : Node → Kind → Given
+givesChild n kind = record { node = raised kind n; child = addressAt (number (childBits n kind)); refusal = 0 }
 
 -- "One that refuses everything"
 unfoldable pub refusesAll : Node → Kind → Given
@@ -24,7 +24,7 @@ rootIsHost n kind =
     if not (isGood n) then refuseChild 1 n
     else if endsInOne (bits (addressIn n)) then refuseChild 2 n
     else if ltb longest (length (childBits n kind)) then refuseChild 3 n
-    else gives n kind
+    else givesChild n kind
 
 -- 2 before 1
 unfoldable pub hostFirst : Node → Kind → Given
@@ -37,7 +37,7 @@ oneTooMany n kind =
     else if isHost (addressIn n) then childOf n kind
     else if not (leb (n .routers) (longest - bitLength (addressIn n)) && leb (n .hosts) (longest + 1 - bitLength (addressIn n))) then refuseChild 1 n
     else if ltb longest (length (childBits n kind)) then refuseChild 3 n
-    else gives n kind
+    else givesChild n kind
 
 -- a child of 64 bits is refused
 unfoldable pub shortOfLimit : Node → Kind → Given

@@ -5,7 +5,7 @@ pub mod Length
 mod Underway
 mod Common
 mod Zeros
-mod Listing
+pub mod Listing
 pub mod Words
 pub mod RefusalLaws
 pub mod Promises

@@ -16,9 +16,10 @@ use Rattle.address.specs.Address.{depth, parent}
 use Rattle.address.specs.Numbers.{IsAddress}
 use Rattle.address.specs.Ancestors.{AncestorOrSelf}
 use Rattle.address.proofs.Steps.{addressOf-steps, depth-range}
-use Rattle.route.specs.Path.{turn, below, pathOf, path, hops, refusePath, listing}
+use Rattle.route.specs.Path.{turn, deeper, pathOf, path, hops, refusePath, listing}
 use Rattle.route.specs.Counting.{upwards}
-use Rattle.route.proofs.Turning.{ancestorOrSelf-cases, ancestorOrSelf-same, turning-points, below-short, below-cons}
+use Rattle.route.specs.TurningPoint.{UpAndDown}
+use Rattle.route.proofs.Turning.{ancestorOrSelf-cases, ancestorOrSelf-length, ancestorOrSelf-same, turning-points, deeper-short, deeper-cons}
 use Rattle.route.proofs.PathLaws.{depth-steps, address-parent, steps-parent, depth-parent, length-path}
 
 module _ (a d : ℕ) (words : List ℕ) where
@@ -52,12 +53,12 @@ module _ {a : ℕ} (h : IsAddress a) (p : 0 < depth a) where
   depth-above : depth a ≡ depth (parent a) + 1
   depth-above = depth-parent h low
 
-  below-above : (k : ℕ) → k < depth a → below k (steps a) ≡ steps a ∷ below k (steps (parent a))
-  below-above k l =
+  deeper-above : (k : ℕ) → k < depth a → deeper k (steps a) ≡ steps a ∷ deeper k (steps (parent a))
+  deeper-above k l =
       let (s, e) = steps-parent h low in
-      ap (below k) e
-      ∙ below-cons k s (steps (parent a)) (omega (arith, depth-above, depth-steps (parent a)))
-      ∙ ap (λ (ss : List Step). ss ∷ below k (steps (parent a))) (sym e)
+      ap (deeper k) e
+      ∙ deeper-cons k s (steps (parent a)) (omega (arith, depth-above, depth-steps (parent a)))
+      ∙ ap (λ (ss : List Step). ss ∷ deeper k (steps (parent a))) (sym e)
 
   ancestorOrSelf-above : (x : List Step) → AncestorOrSelf x (steps a) → length x < depth a → AncestorOrSelf x (steps (parent a))
   ancestorOrSelf-above x w l = let (s, e) = steps-parent h low in go s e (ancestorOrSelf-cases x s (steps (parent a)) (rw e at w))
@@ -66,12 +67,12 @@ module _ {a : ℕ} (h : IsAddress a) (p : 0 < depth a) where
       go s e (inl f) = absurd (omega (arith, ap length (f ∙ sym e), depth-steps a))
       go s e (inr v) = v
 
-upwards-below : (n k : ℕ) {a : ℕ} → IsAddress a → k + n ≡ depth a → upwards n a ≡ map addressOf (below k (steps a))
+upwards-deeper : (n k : ℕ) {a : ℕ} → IsAddress a → k + n ≡ depth a → upwards n a ≡ map addressOf (deeper k (steps a))
 unfolding upwards
-upwards-below zero k {a} h e = rw (below-short k (steps a) (omega (arith, depth-steps a)))
-upwards-below (suc n) k {a} h e =
+upwards-deeper zero k {a} h e = rw (deeper-short k (steps a) (omega (arith, depth-steps a)))
+upwards-deeper (suc n) k {a} h e =
     let p : 0 < depth a = omega arith in
-    rw (below-above h p k (omega arith), addressOf-steps h, upwards-below n k (address-above h p) (omega (arith, depth-above h p)))
+    rw (deeper-above h p k (omega arith), addressOf-steps h, upwards-deeper n k (address-above h p) (omega (arith, depth-above h p)))
 
 upwards-snoc : (n : ℕ) {a : ℕ} (x : List Step) → IsAddress a → AncestorOrSelf x (steps a) → length x + n ≡ depth a
     → upwards (suc n) a ≡ upwards n a ++ (addressOf x ∷ [])
@@ -95,7 +96,22 @@ module _ {a d : ℕ} (up down : ℕ) (h : IsAddress a) (l : IsAddress d) (e : le
   unfolding path pathOf
   path-upwards =
       let x = turn (steps a) (steps d) in
-      rw (add-one down, upwards-snoc down x l (turning-points (steps a) (steps d) .ofSecond) f, reverse-append, map-append, map-reverse, upwards-below up (length x) h e, upwards-below down (length x) l f)
+      rw (add-one down, upwards-snoc down x l (turning-points (steps a) (steps d) .ofSecond) f, reverse-append, map-append, map-reverse, upwards-deeper up (length x) h e, upwards-deeper down (length x) l f)
+
+pub up-and-down : UpAndDown
+up-and-down a d h l =
+    let x = turn (steps a) (steps d) in
+    let top : length x ≤ depth a = omega (arith, ancestorOrSelf-length x (steps a) (turning-points (steps a) (steps d) .ofFirst), depth-steps a) in
+    let end : length x ≤ depth d = omega (arith, ancestorOrSelf-length x (steps d) (turning-points (steps a) (steps d) .ofSecond), depth-steps d) in
+    let e : length x + (depth a - length x) ≡ depth a = omega arith in
+    let f : length x + (depth d - length x) ≡ depth d = omega arith in
+    record {
+      up = depth a - length x;
+      down = depth d - length x;
+      upTo = e;
+      downFrom = f;
+      listed = path-upwards (depth a - length x) (depth d - length x) h l e f;
+    }
 
 -- the words with the way up put in front, and the way down behind it
 pub framed : (words us vs : List ℕ) (up end : ℕ) → length us ≡ up → up ≤ end

@@ -15,7 +15,7 @@ use Rattle.address.specs.Ancestors.{AncestorOrSelf}
 use Rattle.address.proofs.Numbers.{bitLength-le}
 use Rattle.address.proofs.Steps.{addressOf-steps, addressOf-root, parent-addressOf, depth-range}
 use Rattle.address.proofs.Ancestors.{routers-above, length-tail, address-tail, steps-tail, steps-injective}
-use Rattle.route.specs.Path.{isAncestorOrSelf, turn, below, pathOf, path, hops}
+use Rattle.route.specs.Path.{isAncestorOrSelf, turn, deeper, pathOf, path, hops}
 use Rattle.route.proofs.Turning.{ancestorOrSelf-root, ancestorOrSelf-next, isAncestorOrSelf-true, isAncestorOrSelf-false, pathOf-self, pathOf-up, pathOf-down, pathOf-first, pathOf-last, length-pathOf, length-pathOf-cons, mem-pathOf}
 
 -- an ancestor-or-self, as an address
@@ -41,12 +41,12 @@ off-root a d off e = off (ancestorOrSelf-none (steps a) (omega (arith, ap depth 
     ancestorOrSelf-none [] z = ancestorOrSelf-root (steps d)
     ancestorOrSelf-none (s ∷ ss) z = absurd (omega arith)
 
-module _ {a : ℕ} (h : IsAddress a) (below : a ≡ root → ⊥) where
+module _ {a : ℕ} (h : IsAddress a) (deeper : a ≡ root → ⊥) where
   has-parent : (s : Step) × (up : List Step) × (steps a ≡ s ∷ up) × (parent a ≡ addressOf up)
   has-parent = go (steps a) refl
     where
       go : (ss : List Step) → steps a ≡ ss → (s : Step) × (up : List Step) × (steps a ≡ s ∷ up) × (parent a ≡ addressOf up)
-      go [] e = absurd (below (sym (addressOf-steps h) ∙ ap addressOf e ∙ addressOf-root))
+      go [] e = absurd (deeper (sym (addressOf-steps h) ∙ ap addressOf e ∙ addressOf-root))
       go (s ∷ up) e =
           let short : length (spelled (s ∷ up)) ≤ longest = omega (arith, length-tail h [] (s ∷ up) e, bitLength-le (h .fits)) in
           (s, up, e, ap parent (sym (addressOf-steps h) ∙ ap addressOf e) ∙ parent-addressOf s up short (routers-above a s [] up e))

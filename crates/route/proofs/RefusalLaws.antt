@@ -1,18 +1,23 @@
 -- The path call is refused exactly where one of its conditions holds: each exit of `listing` tells the condition that it is for. Assumes nothing.
-use mathlib.Core.Path.{_≡_, refl, ap}
+use mathlib.Core.Path.{_≡_, refl, ap, _∙_}
 use mathlib.Core.Bool.{Bool, true, false}
 use mathlib.Core.Logic.{_⊎_, inl, inr, ⊎-elim}
-use mathlib.Core.List.{List, _++_}
-use Prim.Native.Nat.{ℕ, _<_, _≤_}
+use mathlib.Core.List.{List, _++_, map-append}
+use Prim.Native.Nat.{ℕ, _+_, _<_, _≤_}
 use native.Mathlib.Omega.{arith}
 use borrow.Author.Tests.{eqb-true, eqb-false, ltb-true, ltb-false}
 use lib.Dec.{eqb, ltb}
-use lib.ListN.{length, drop}
+use lib.ListN.{length, length-append, drop}
 use Rattle.address.specs.Order.{First}
 use Rattle.address.proofs.OrderLaws.{given-exactly}
-use Rattle.route.specs.Path.{PathEffect, path, hops, refusePath, listing}
+use Rattle.route.specs.Path.{PathEffect, pathOf, path, hops, refusePath, listing}
 use Rattle.route.specs.Refusals.{pathOrder, PathRefusals}
 use Rattle.route.proofs.Listing.{listing-zero-first, listing-zero-second, listing-short, listing-done}
+
+-- the hops are the addresses less one, and there is one at least
+hops-path : (a d : ℕ) → hops (path a d) + 1 ≡ length (path a d)
+unfolding hops path pathOf
+hops-path a d = rw (map-append, length-append) (omega arith)
 
 module _ (a d : ℕ) (words : List ℕ) where
   -- what the call comes to, and which condition it is for
@@ -51,11 +56,11 @@ module _ (a d : ℕ) (words : List ℕ) where
   beside (listed s l e) h = absurd (h (number e))
 
   without : Comes → listing a d words .answer .refusal ≡ 0
-      → (listing a d words .answer .hops ≡ hops (path a d)) × (listing a d words .words ≡ path a d ++ drop (length (path a d)) words)
+      → (listing a d words .answer .hops + 1 ≡ length (path a d)) × (listing a d words .words ≡ path a d ++ drop (length (path a d)) words)
   unfolding refusePath
   without (zero-address z e) h = absurd (omega (arith, number e))
   without (no-room s l e) h = absurd (omega (arith, number e))
-  without (listed s l e) h = (ap (λ (w : PathEffect). w .answer .hops) e, ap (λ (w : PathEffect). w .words) e)
+  without (listed s l e) h = (ap (λ (w : PathEffect). w .answer .hops + 1) e ∙ hops-path a d, ap (λ (w : PathEffect). w .words) e)
 
 pub path-refusals : PathRefusals
 path-refusals = record {

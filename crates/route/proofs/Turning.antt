@@ -15,7 +15,7 @@ use Rattle.address.specs.Steps.{Step, child}
 use Rattle.address.specs.declared.Kind.{Kind}
 use Rattle.address.specs.declared.Kind.the-variants.{Router as router, Host as host}
 use Rattle.address.specs.Ancestors.{AncestorOrSelf}
-use Rattle.route.specs.Path.{sameKind, sameSteps, isAncestorOrSelf, turn, below, pathOf}
+use Rattle.route.specs.Path.{sameKind, sameSteps, isAncestorOrSelf, turn, deeper, pathOf}
 use Rattle.route.specs.TurningPoint.{IsTurningPoint, TurningPoints}
 
 -- the same steps
@@ -176,76 +176,76 @@ length-turn-second ss ts = ancestorOrSelf-length (turn ss ts) ts (turning-points
 
 -- what has more than k steps
 
-pub below-short : (k : ℕ) (ss : List Step) → length ss ≤ k → below k ss ≡ []
-unfolding below
-below-short k [] h = refl
-below-short k (s ∷ up) h = rw (le-ltb k (length (s ∷ up)) h)
+pub deeper-short : (k : ℕ) (ss : List Step) → length ss ≤ k → deeper k ss ≡ []
+unfolding deeper
+deeper-short k [] h = refl
+deeper-short k (s ∷ up) h = rw (le-ltb k (length (s ∷ up)) h)
 
-pub below-cons : (k : ℕ) (s : Step) (up : List Step) → k ≤ length up → below k (s ∷ up) ≡ (s ∷ up) ∷ below k up
-unfolding below
-below-cons k s up h = rw (lt-ltb k (length (s ∷ up)) (omega arith))
+pub deeper-cons : (k : ℕ) (s : Step) (up : List Step) → k ≤ length up → deeper k (s ∷ up) ≡ (s ∷ up) ∷ deeper k up
+unfolding deeper
+deeper-cons k s up h = rw (lt-ltb k (length (s ∷ up)) (omega arith))
 
-pub below-self : (ss : List Step) → below (length ss) ss ≡ []
-below-self ss = below-short (length ss) ss (le-refl (length ss))
+pub deeper-self : (ss : List Step) → deeper (length ss) ss ≡ []
+deeper-self ss = deeper-short (length ss) ss (le-refl (length ss))
 
-pub below-append : (s : Step) (dropped x : List Step)
-    → below (length x) (s ∷ (dropped ++ x)) ≡ (s ∷ (dropped ++ x)) ∷ below (length x) (dropped ++ x)
-below-append s dropped x = below-cons (length x) s (dropped ++ x) (omega (arith, length-append dropped x))
+pub deeper-append : (s : Step) (dropped x : List Step)
+    → deeper (length x) (s ∷ (dropped ++ x)) ≡ (s ∷ (dropped ++ x)) ∷ deeper (length x) (dropped ++ x)
+deeper-append s dropped x = deeper-cons (length x) s (dropped ++ x) (omega (arith, length-append dropped x))
 
 -- the last of them is one step below x
-pub below-snoc : (more : List Step) (s : Step) (x : List Step)
-    → below (length x) (more ++ (s ∷ x)) ≡ below (length (s ∷ x)) (more ++ (s ∷ x)) ++ ((s ∷ x) ∷ [])
-below-snoc [] s x = below-cons (length x) s x (le-refl (length x)) ∙ rw (below-self x, below-self (s ∷ x))
-below-snoc (m ∷ more) s x =
+pub deeper-snoc : (more : List Step) (s : Step) (x : List Step)
+    → deeper (length x) (more ++ (s ∷ x)) ≡ deeper (length (s ∷ x)) (more ++ (s ∷ x)) ++ ((s ∷ x) ∷ [])
+deeper-snoc [] s x = deeper-cons (length x) s x (le-refl (length x)) ∙ rw (deeper-self x, deeper-self (s ∷ x))
+deeper-snoc (m ∷ more) s x =
     let long = length-append more (s ∷ x) in
-    below-cons (length x) m (more ++ (s ∷ x)) (omega arith)
-    ∙ rw (below-snoc more s x, below-cons (length (s ∷ x)) m (more ++ (s ∷ x)) (omega arith))
+    deeper-cons (length x) m (more ++ (s ∷ x)) (omega arith)
+    ∙ rw (deeper-snoc more s x, deeper-cons (length (s ∷ x)) m (more ++ (s ∷ x)) (omega arith))
 
-pub length-below : (k : ℕ) (ss : List Step) → length (below k ss) ≡ length ss - k
-unfolding below
-length-below k [] = omega arith
-length-below k (s ∷ up) = go (ltb k (length (s ∷ up))) refl (length-below k up)
+pub length-deeper : (k : ℕ) (ss : List Step) → length (deeper k ss) ≡ length ss - k
+unfolding deeper
+length-deeper k [] = omega arith
+length-deeper k (s ∷ up) = go (ltb k (length (s ∷ up))) refl (length-deeper k up)
   where
-    go : (t : Bool) → ltb k (length (s ∷ up)) ≡ t → length (below k up) ≡ length up - k → length (if t then (s ∷ up) ∷ below k up else []) ≡ length (s ∷ up) - k
+    go : (t : Bool) → ltb k (length (s ∷ up)) ≡ t → length (deeper k up) ≡ length up - k → length (if t then (s ∷ up) ∷ deeper k up else []) ≡ length (s ∷ up) - k
     go true e rest = let h = ltb-true k (length (s ∷ up)) e in omega arith
     go false e rest = let h = ltb-false k (length (s ∷ up)) e in omega arith
 
-pub mem-below : (k : ℕ) (ss x : List Step) → List·Memᴰ x (below k ss) → AncestorOrSelf x ss
-unfolding below
-mem-below k [] x m = absurd (List·Memᴰ·not-nil m)
-mem-below k (s ∷ up) x m = go (ltb k (length (s ∷ up))) m (mem-below k up x)
+pub mem-deeper : (k : ℕ) (ss x : List Step) → List·Memᴰ x (deeper k ss) → AncestorOrSelf x ss
+unfolding deeper
+mem-deeper k [] x m = absurd (List·Memᴰ·not-nil m)
+mem-deeper k (s ∷ up) x m = go (ltb k (length (s ∷ up))) m (mem-deeper k up x)
   where
-    go : (t : Bool) → List·Memᴰ x (if t then (s ∷ up) ∷ below k up else []) → (List·Memᴰ x (below k up) → AncestorOrSelf x up) → AncestorOrSelf x (s ∷ up)
+    go : (t : Bool) → List·Memᴰ x (if t then (s ∷ up) ∷ deeper k up else []) → (List·Memᴰ x (deeper k up) → AncestorOrSelf x up) → AncestorOrSelf x (s ∷ up)
     go true m rest = ⊎-elim (λ e. ([], sym e)) (λ n. ancestorOrSelf-cons s x up (rest n)) (List·Memᴰ·cases-cons m)
     go false m rest = absurd (List·Memᴰ·not-nil m)
 
 -- the path
 
 -- down from one that is on the way
-pub pathOf-on : (x ts : List Step) → AncestorOrSelf x ts → pathOf x ts ≡ x ∷ reverse (below (length x) ts)
+pub pathOf-on : (x ts : List Step) → AncestorOrSelf x ts → pathOf x ts ≡ x ∷ reverse (deeper (length x) ts)
 unfolding pathOf
-pathOf-on x ts w = rw (turn-on x ts w, below-self x)
+pathOf-on x ts w = rw (turn-on x ts w, deeper-self x)
 
 -- up, and from the turning point down
-pub pathOf-turn : (ss ts : List Step) → pathOf ss ts ≡ below (length (turn ss ts)) ss ++ pathOf (turn ss ts) ts
+pub pathOf-turn : (ss ts : List Step) → pathOf ss ts ≡ deeper (length (turn ss ts)) ss ++ pathOf (turn ss ts) ts
 pathOf-turn ss ts = rw (pathOf-on (turn ss ts) ts (turning-points ss ts .ofSecond)) (unfold pathOf in refl)
 
 pub pathOf-self : (ss : List Step) → pathOf ss ss ≡ ss ∷ []
-pathOf-self ss = pathOf-on ss ss (ancestorOrSelf-refl ss) ∙ rw (below-self ss)
+pathOf-self ss = pathOf-on ss ss (ancestorOrSelf-refl ss) ∙ rw (deeper-self ss)
 
 pub pathOf-up : (s : Step) (up ts : List Step) → (AncestorOrSelf (s ∷ up) ts → ⊥) → pathOf (s ∷ up) ts ≡ (s ∷ up) ∷ pathOf up ts
 unfolding pathOf
-pathOf-up s up ts off = rw (turn-off s up ts off, below-cons (length (turn up ts)) s up (length-turn-first up ts))
+pathOf-up s up ts off = rw (turn-off s up ts off, deeper-cons (length (turn up ts)) s up (length-turn-first up ts))
 
 pub pathOf-down : (more : List Step) (s : Step) (x : List Step) → pathOf x (more ++ (s ∷ x)) ≡ x ∷ pathOf (s ∷ x) (more ++ (s ∷ x))
 pathOf-down more s x =
     pathOf-on x (more ++ (s ∷ x)) (ancestorOrSelf-tail s x (more ++ (s ∷ x)) (more, refl))
-    ∙ rw (below-snoc more s x, reverse-append, pathOf-on (s ∷ x) (more ++ (s ∷ x)) (more, refl))
+    ∙ rw (deeper-snoc more s x, reverse-append, pathOf-on (s ∷ x) (more ++ (s ∷ x)) (more, refl))
 
 pub length-pathOf : (ss ts : List Step) → length (pathOf ss ts) + 2 * length (turn ss ts) ≡ length ss + length ts + 1
 unfolding pathOf
 length-pathOf ss ts =
-    rw (length-append, length-reverse, length-below, length-below)
+    rw (length-append, length-reverse, length-deeper, length-deeper)
     (omega (arith, length-turn-first ss ts, length-turn-second ss ts))
 
 -- one step further up or down makes the path longer or shorter by one
@@ -269,15 +269,15 @@ pathOf-first (s ∷ up) ts = go (isAncestorOrSelf (s ∷ up) ts) refl
 pathOf-last-on : (dropped x : List Step) → (front : List (List Step)) × (pathOf x (dropped ++ x) ≡ front ++ ((dropped ++ x) ∷ []))
 pathOf-last-on [] x = ([], pathOf-self x)
 pathOf-last-on (d ∷ dropped) x =
-    (x ∷ reverse (below (length x) (dropped ++ x)), pathOf-on x (d ∷ (dropped ++ x)) (d ∷ dropped, refl) ∙ rw (below-append d dropped x, reverse-cons))
+    (x ∷ reverse (deeper (length x) (dropped ++ x)), pathOf-on x (d ∷ (dropped ++ x)) (d ∷ dropped, refl) ∙ rw (deeper-append d dropped x, reverse-cons))
 
 pub pathOf-last : (ss ts : List Step) → (front : List (List Step)) × (pathOf ss ts ≡ front ++ (ts ∷ []))
 pathOf-last ss ts = go (turn ss ts) (turning-points ss ts .ofSecond) (pathOf-turn ss ts)
   where
-    go : (x : List Step) → AncestorOrSelf x ts → pathOf ss ts ≡ below (length x) ss ++ pathOf x ts → (front : List (List Step)) × (pathOf ss ts ≡ front ++ (ts ∷ []))
+    go : (x : List Step) → AncestorOrSelf x ts → pathOf ss ts ≡ deeper (length x) ss ++ pathOf x ts → (front : List (List Step)) × (pathOf ss ts ≡ front ++ (ts ∷ []))
     go x (dropped, e) split =
         let (front, down) = pathOf-last-on dropped x in
-        (below (length x) ss ++ front, split ∙ rw (e, down, append-assoc))
+        (deeper (length x) ss ++ front, split ∙ rw (e, down, append-assoc))
 
 mem-reverse : {x : List Step} (l : List (List Step)) → List·Memᴰ x (reverse l) → List·Memᴰ x l
 mem-reverse [] m = m
@@ -293,6 +293,6 @@ unfolding pathOf
 mem-pathOf ss ts x m =
     let k = length (turn ss ts) in
     ⊎-elim
-    (λ n. inl (mem-below k ss x n))
-    (λ n. inr (⊎-elim (λ e. rw e (turning-points ss ts .ofSecond)) (λ l. mem-below k ts x (mem-reverse (below k ts) l)) (List·Memᴰ·cases-cons n)))
-    (List·Memᴰ·append-cases (below k ss) m)
+    (λ n. inl (mem-deeper k ss x n))
+    (λ n. inr (⊎-elim (λ e. rw e (turning-points ss ts .ofSecond)) (λ l. mem-deeper k ts x (mem-reverse (deeper k ts) l)) (List·Memᴰ·cases-cons n)))
+    (List·Memᴰ·append-cases (deeper k ss) m)

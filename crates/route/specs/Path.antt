@@ -35,13 +35,13 @@ turn [] ts = []
 turn (s ∷ up) ts = if isAncestorOrSelf (s ∷ up) ts then s ∷ up else turn up ts
 
 -- an address and its ancestors, upwards, as long as they have more than k steps
-unfoldable pub below : ℕ → List Step → List (List Step)
-below k [] = []
-below k (s ∷ up) = if ltb k (length (s ∷ up)) then (s ∷ up) ∷ below k up else []
+unfoldable pub deeper : ℕ → List Step → List (List Step)
+deeper k [] = []
+deeper k (s ∷ up) = if ltb k (length (s ∷ up)) then (s ∷ up) ∷ deeper k up else []
 
 -- up to the turning point, and down
 unfoldable pub pathOf : List Step → List Step → List (List Step)
-pathOf ss ts = below (length (turn ss ts)) ss ++ (turn ss ts ∷ reverse (below (length (turn ss ts)) ts))
+pathOf ss ts = deeper (length (turn ss ts)) ss ++ (turn ss ts ∷ reverse (deeper (length (turn ss ts)) ts))
 
 unfoldable pub path : ℕ → ℕ → List ℕ
 path a d = map addressOf (pathOf (steps a) (steps d))

@@ -21,7 +21,7 @@ use Rattle.node.specs.Node.{fresh, count, raised, isGood, childBits, childOf}
 use Rattle.forward.specs.Forward.{nextHop, rules, toward}
 use Rattle.packet.specs.Packet.{packetHop}
 use Rattle.tree.specs.Tree.{Request, request, Tree, bareRoot, recordOf, replaced, withChild, answered, askedOf, ask, grow, grown, addresses, InTree, standing, Linked, Walk, here, along}
-use Rattle.route.specs.Path.{path, pathOf, turn, isAncestorOrSelf, sameSteps, below}
+use Rattle.route.specs.Path.{path, pathOf, turn, isAncestorOrSelf, sameSteps, deeper}
 use Rattle.tree.specs.Way.{Fate, deliveredTo, stoppedWith, passedTo, fate, deliveredAt, stoppedAt, lostAt, delivered, stopped, lost, onward}
 use Rattle.tree.specs.Demand3.{Demand3, Arrives}
 use Rattle.tree.specs.WrongHops.{AddressRule, hopBy, rulesBy, rightParts, refusesEverything, parentToAll, leaps, namesNobody, hostKeeps, hostDelivers, rootAsHost, lowBits, lookedShort, beforeLastBit, oneCount}
@@ -170,7 +170,7 @@ lowBits-refuted claim =
 
 -- 1 to 111 in 1, 11, 111: 1 passes it to 11, and 11 passes it back
 pub beforeLastBit-refuted : ((rs : List Request) → Demand3 childOf beforeLastBit rs) → ⊥
-unfolding beforeLastBit lookedShort opened path pathOf turn isAncestorOrSelf sameSteps below
+unfolding beforeLastBit lookedShort opened path pathOf turn isAncestorOrSelf sameSteps deeper
 beforeLastBit-refuted claim =
     let rs = request 1 host ∷ request 1 host ∷ [] in
     let b = address 6 (lit< tt) in

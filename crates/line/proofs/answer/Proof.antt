@@ -4,9 +4,9 @@ use mathlib.Core.List.{List}
 use Prim.Native.Nat.{ℕ}
 use borrow.Author.Tests.{eq-eqb, ne-eqb}
 use borrow.Author.Needs.{needs}
-use Rattle.line.specs.Line.{asked, between, unreadable}
+use Rattle.line.specs.Line.{parsed, between, unreadable}
 use Rattle.line.proofs.Exact.{exactly-the-line}
-use Rattle.line.proofs.Replies.{reply-unreadable, reply-between, reply-parts}
+use Rattle.line.proofs.Replies.{answering-unreadable, answering-between, answering-parts}
 use Rattle.line.proofs.answer.Statement.{statement}
 use Rattle.line.proofs.answer.Tie as tie
 
@@ -30,16 +30,16 @@ returns c =
     let called = c .before .before in
     let test = called .before .before in
     let read = test .before .before in
-    let e : asked (input read) ≡ unreadable = read .read-line .ensures ∙ rw (eq-eqb (read .read-line .result .first) 0 (test .if1 .taken)) in
-    reply-parts (input read) (out read) (called .refuse .ensures ∙ sym (reply-unreadable (input read) (out read) e))
+    let e : parsed (input read) ≡ unreadable = read .read-line .ensures ∙ rw (eq-eqb (read .read-line .result .first) 0 (test .if1 .taken)) in
+    answering-parts (input read) (out read) (called .refuse .ensures ∙ sym (answering-unreadable (input read) (out read) e))
 
-asked-ends : (c : tie.Else1)
-    → let read = c .before .before in asked (input read) ≡ between (read .read-line .result .first) (read .read-line .result .second)
-asked-ends c = c .before .before .read-line .ensures ∙ rw (ne-eqb (c .before .before .read-line .result .first) 0 (c .if1 .left))
+parsed-ends : (c : tie.Else1)
+    → let read = c .before .before in parsed (input read) ≡ between (read .read-line .result .first) (read .read-line .result .second)
+parsed-ends c = c .before .before .read-line .ensures ∙ rw (ne-eqb (c .before .before .read-line .result .first) 0 (c .if1 .left))
 
 report-requires : tie.Need-report-requires
 report-requires c κs =
-    let ends = exactly-the-line .only _ _ _ (asked-ends (c .before)) in
+    let ends = exactly-the-line .only _ _ _ (parsed-ends (c .before)) in
     (ends .0 .some, ends .1 .some)
 
 same-length-2 : tie.Need-same-length-2
@@ -50,7 +50,7 @@ returns-2 c =
     let called = c .before .before in
     let test = called .before .before in
     let read = test .before .before in
-    reply-parts (input read) (out read) (called .report .ensures ∙ sym (reply-between (input read) (out read) (asked-ends test)))
+    answering-parts (input read) (out read) (called .report .ensures ∙ sym (answering-between (input read) (out read) (parsed-ends test)))
 
 pub answer-spec : {M : Type 1} → statement M
 answer-spec =

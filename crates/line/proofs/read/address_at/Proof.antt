@@ -2,7 +2,7 @@
 use mathlib.Core.Path.{sym, _∙_}
 use native.Mathlib.Omega.{arith}
 use borrow.Author.Needs.{needs}
-use Rattle.line.proofs.Asked.{addressIn-past, addressIn-other, addressIn-long, addressIn-one}
+use Rattle.line.proofs.Parsed.{addressIn-past, addressIn-other, addressIn-long, addressIn-one}
 use Rattle.line.proofs.read.address_at.Statement.{statement}
 use Rattle.line.proofs.read.address_at.Tie as tie
 

@@ -8,7 +8,7 @@ use borrow.Author.Needs.{needs}
 use lib.ListN.{length, drop, getD, length-drop}
 use Rattle.line.specs.Line.{space, digitsOf, between}
 use Rattle.line.proofs.Digits.{length-digitsOf-le}
-use Rattle.line.proofs.Asked.{addressIn-zero, addressIn-some, asked-first, asked-short, asked-unspaced, asked-no-second, asked-length, asked-unended, asked-both}
+use Rattle.line.proofs.Parsed.{addressIn-zero, addressIn-some, parsed-first, parsed-short, parsed-unspaced, parsed-no-second, parsed-length, parsed-unended, parsed-both}
 use Rattle.line.proofs.read.read_line.Statement.{statement}
 use Rattle.line.proofs.read.read_line.Tie as tie
 
@@ -24,12 +24,12 @@ middle c = omega (arith, c .address-at .ensures .0)
 returns : tie.Need-returns
 returns c =
     let one = c .before .before in
-    asked-first (input one) (addressIn-zero (digitsOf (input one)) (one .address-at .ensures .1) (c .if1 .taken))
+    parsed-first (input one) (addressIn-zero (digitsOf (input one)) (one .address-at .ensures .1) (c .if1 .taken))
 
 returns-2 : tie.Need-returns-2
 returns-2 c =
     let one = c .before .before .before in
-    asked-short (input one) (middle one) (c .if2 .taken)
+    parsed-short (input one) (middle one) (c .if2 .taken)
 
 shared-slice-read-if3 : tie.Need-shared-slice-read-if3
 shared-slice-read-if3 c = search needs
@@ -37,7 +37,7 @@ shared-slice-read-if3 c = search needs
 returns-3 : tie.Need-returns-3
 returns-3 c =
     let one = c .before .before .before .before .before in
-    asked-unspaced (input one) (middle one) (c .before .before .if2 .left) (c .if3 .taken)
+    parsed-unspaced (input one) (middle one) (c .before .before .if2 .left) (c .if3 .taken)
 
 add-address-at : tie.Need-add-address-at
 add-address-at c = search needs
@@ -66,7 +66,7 @@ last-le c = omega (arith, inside c, c .address-at2 .ensures .0, length-digitsOf-
 returns-4 : tie.Need-returns-4
 returns-4 c =
     let two = c .before .before in
-    asked-no-second (input (first two)) (middle (first two)) (inside two) (spaced two)
+    parsed-no-second (input (first two)) (middle (first two)) (inside two) (spaced two)
     (addressIn-zero (digitsOf (second two)) (two .address-at2 .ensures .1) (c .if4 .taken))
 
 add-if5 : tie.Need-add-if5
@@ -75,7 +75,7 @@ add-if5 c = omega (arith, last-le (c .before .before))
 returns-5 : tie.Need-returns-5
 returns-5 c =
     let two = c .before .before .before in
-    asked-length (input (first two)) (middle (first two)) (inside two) (spaced two) (two .address-at2 .ensures .0) (c .if5 .taken) (last-le two)
+    parsed-length (input (first two)) (middle (first two)) (inside two) (spaced two) (two .address-at2 .ensures .0) (c .if5 .taken) (last-le two)
 
 shared-slice-read-if6 : tie.Need-shared-slice-read-if6
 shared-slice-read-if6 c = search needs
@@ -83,7 +83,7 @@ shared-slice-read-if6 c = search needs
 returns-6 : tie.Need-returns-6
 returns-6 c =
     let two = c .before .before .before .before .before in
-    asked-unended (input (first two)) (middle (first two)) (inside two) (spaced two) (two .address-at2 .ensures .0) (omega arith) (c .if6 .taken)
+    parsed-unended (input (first two)) (middle (first two)) (inside two) (spaced two) (two .address-at2 .ensures .0) (omega arith) (c .if6 .taken)
 
 returns-7 : tie.Need-returns-7
 returns-7 c =
@@ -91,7 +91,7 @@ returns-7 c =
     let a = addressIn-some (digitsOf (input (first two))) (first two .address-at .ensures .1) (some two) in
     let d = addressIn-some (digitsOf (second two)) (two .address-at2 .ensures .1) (c .before .before .before .if4 .left) in
     rw (ne-eqb (first two .address-at .result .number) 0 (some two))
-    (asked-both (input (first two)) (middle (first two)) (inside two) (spaced two) (two .address-at2 .ensures .0) (c .before .before .if5 .left) (c .if6 .left) (a .0) (d .0)
+    (parsed-both (input (first two)) (middle (first two)) (inside two) (spaced two) (two .address-at2 .ensures .0) (c .before .before .if5 .left) (c .if6 .left) (a .0) (d .0)
     ∙ sym (ap₂ between (a .1) (d .1)))
 
 pub read-line-spec : {M : Type 1} → statement M

@@ -16,7 +16,7 @@ use Rattle.address.specs.Bits.{Bit, O, I, number, longest}
 use Rattle.address.specs.Numbers.{IsAddressString}
 use Rattle.address.proofs.Numbers.{number-address}
 use Rattle.octets.proofs.SameLaws.{same-refl, same-ne}
-use Rattle.line.specs.Line.{digitOne, digitZero, space, newline, digitsOf, afterDigits, areAddress, afterSpace, asked, between, unreadable}
+use Rattle.line.specs.Line.{digitOne, digitZero, space, newline, digitsOf, afterDigits, areAddress, afterSpace, parsed, between, unreadable}
 
 -- ---- digits that are an address
 
@@ -91,52 +91,52 @@ module _ (ds : List Bit) {n : ℕ} (e : n ≡ addressIn ds) where
 -- ---- the input, test by test
 
 module _ (input : List ℕ) where
-  pub asked-first : areAddress (digitsOf input) ≡ false → asked input ≡ unreadable
-  unfolding asked
-  asked-first e = rw e
+  pub parsed-first : areAddress (digitsOf input) ≡ false → parsed input ≡ unreadable
+  unfolding parsed
+  parsed-first e = rw e
 
-  asked-second : areAddress (digitsOf (afterSpace (afterDigits input))) ≡ false → asked input ≡ unreadable
-  unfolding asked
-  asked-second e = rw (e, and-false)
+  parsed-second : areAddress (digitsOf (afterSpace (afterDigits input))) ≡ false → parsed input ≡ unreadable
+  unfolding parsed
+  parsed-second e = rw (e, and-false)
 
   module _ {middle : ℕ} (m : middle ≡ length (digitsOf input)) where
     front : afterDigits input ≡ drop middle input
     unfolding afterDigits
     front = rw m
 
-    pub asked-short : length input ≤ middle → asked input ≡ unreadable
+    pub parsed-short : length input ≤ middle → parsed input ≡ unreadable
     unfolding digitsOf areAddress afterSpace
-    asked-short h = asked-second (rw (front, drop-of-length-le input {i = middle} h))
+    parsed-short h = parsed-second (rw (front, drop-of-length-le input {i = middle} h))
 
-    pub asked-unspaced : middle < length input → (getD input middle 0 ≡ space → ⊥) → asked input ≡ unreadable
+    pub parsed-unspaced : middle < length input → (getD input middle 0 ≡ space → ⊥) → parsed input ≡ unreadable
     unfolding digitsOf areAddress afterSpace
-    asked-unspaced h s = asked-second (rw (front, drop-cons input middle 0 h, ne-eqb (getD input middle 0) space s))
+    parsed-unspaced h s = parsed-second (rw (front, drop-cons input middle 0 h, ne-eqb (getD input middle 0) space s))
 
     module _ (h : middle < length input) (s : getD input middle 0 ≡ space) where
       behind : afterSpace (afterDigits input) ≡ drop (middle + 1) input
       unfolding afterSpace
       behind = rw (front, drop-cons input middle 0 h, eq-eqb (getD input middle 0) space s, add-one)
 
-      pub asked-no-second : areAddress (digitsOf (drop (middle + 1) input)) ≡ false → asked input ≡ unreadable
-      asked-no-second e = asked-second (rw (behind, e))
+      pub parsed-no-second : areAddress (digitsOf (drop (middle + 1) input)) ≡ false → parsed input ≡ unreadable
+      parsed-no-second e = parsed-second (rw (behind, e))
 
       module _ {last : ℕ} (l : last ≡ middle + 1 + length (digitsOf (drop (middle + 1) input))) where
         rest : afterDigits (afterSpace (afterDigits input)) ≡ drop last input
         rest = rw behind (unfold afterDigits in drop-drop (length (digitsOf (drop (middle + 1) input))) (middle + 1) input ∙ rw l)
 
-        asked-end : (drop last input ≡ newline ∷ [] → ⊥) → asked input ≡ unreadable
-        unfolding asked
-        asked-end ne = rw (rest, same-ne (drop last input) (newline ∷ []) ne, and-false)
+        parsed-end : (drop last input ≡ newline ∷ [] → ⊥) → parsed input ≡ unreadable
+        unfolding parsed
+        parsed-end ne = rw (rest, same-ne (drop last input) (newline ∷ []) ne, and-false)
 
-        pub asked-length : (length input ≡ last + 1 → ⊥) → last ≤ length input → asked input ≡ unreadable
-        asked-length ne r = asked-end (λ e. ne (omega (arith, ap length e, length-drop last input)))
+        pub parsed-length : (length input ≡ last + 1 → ⊥) → last ≤ length input → parsed input ≡ unreadable
+        parsed-length ne r = parsed-end (λ e. ne (omega (arith, ap length e, length-drop last input)))
 
-        pub asked-unended : last < length input → (getD input last 0 ≡ newline → ⊥) → asked input ≡ unreadable
-        asked-unended r ne = asked-end (λ e. ne (let f = sym (drop-cons input last 0 r) ∙ e in cc))
+        pub parsed-unended : last < length input → (getD input last 0 ≡ newline → ⊥) → parsed input ≡ unreadable
+        parsed-unended r ne = parsed-end (λ e. ne (let f = sym (drop-cons input last 0 r) ∙ e in cc))
 
-        pub asked-both : length input ≡ last + 1 → getD input last 0 ≡ newline → areAddress (digitsOf input) ≡ true → areAddress (digitsOf (drop (middle + 1) input)) ≡ true
-            → asked input ≡ between (number (digitsOf input)) (number (digitsOf (drop (middle + 1) input)))
-        unfolding asked
-        asked-both r e a b =
+        pub parsed-both : length input ≡ last + 1 → getD input last 0 ≡ newline → areAddress (digitsOf input) ≡ true → areAddress (digitsOf (drop (middle + 1) input)) ≡ true
+            → parsed input ≡ between (number (digitsOf input)) (number (digitsOf (drop (middle + 1) input)))
+        unfolding parsed
+        parsed-both r e a b =
             let end : drop last input ≡ newline ∷ [] = drop-cons input last 0 (omega arith) ∙ rw (e, drop-of-length-le input {i = suc last} (omega arith)) in
             rw (rest, end, same-refl (newline ∷ []), behind, a, b)
