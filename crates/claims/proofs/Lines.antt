@@ -1,69 +1,94 @@
 -- The front page's lines, each taken from the record that carries it: a clause that is dropped there breaks the page. Assumes nothing.
-use Prim.Native.Nat.{ℕ}
-use mathlib.Core.Path.{_≡_, refl, ap, _∙_}
-use mathlib.Core.List.{List, [], _∷_, _++_}
-use Rattle.address.specs.Steps.{Step, steps, addressOf}
-use Rattle.address.specs.Address.{depth, above, parent}
+use Prim.Native.Nat.{ℕ, _+_, _*_, _^_, _<_, _≤_}
+use mathlib.Core.Path.{_≡_, refl, sym, ap, ap₂, _∙_}
+use mathlib.Core.List.{List, [], _∷_, _++_, map}
+use native.Mathlib.Nat.{add-zero}
+use native.Mathlib.Omega.{arith}
+use lib.Dec.{lit≤}
+use lib.ListN.{length}
+use Rattle.address.specs.Bits.{Bit, O, I, lastBit, bitsIn, bits, digit, numberFrom, number}
+use Rattle.address.specs.Steps.{Step, lastStep, cut, stepsOf, steps, lastOf, stepBits, spelled, addressOf}
+use Rattle.address.specs.Address.{bitLength, depth, above, parent}
 use Rattle.address.specs.Numbers.{IsAddress}
-use Rattle.address.proofs.Numbers.{one-to-one, leadingZeros-bitLength}
+use Rattle.address.proofs.Numbers.{one-to-one, number-snoc, leadingZeros-bitLength}
+use Rattle.address.proofs.Answers.{parent-small}
 use Rattle.address.proofs.Steps.{exactly-one-cut, depth-range}
-use Rattle.address.proofs.Ancestors.{steps-tail}
+use Rattle.address.proofs.Ancestors.{steps-tail, host-ancestorOrSelf}
 use Rattle.address.proofs.KindLaws.{kinds}
 use Rattle.address.proofs.RefusalLaws.{address-refusals}
-use Rattle.address.proofs.Promises.{new-promise, new-asks-nothing}
+use Rattle.address.proofs.Promises.{one-made, of-promise, of-asks-nothing, new-promise, new-asks-nothing, bit-length-promise, bit-length-asks-nothing, is-host-promise, is-host-asks-nothing, depth-promise, depth-asks-nothing, parent-promise, parent-asks-nothing}
+use Rattle.address.specs.Kinds.{IsHost}
+use Rattle.octets.specs.Octets.{same}
 use Rattle.octets.proofs.Correspondence.{octets-one-to-one, same-exactly}
+use Rattle.octets.proofs.Promises.{put-asks-nothing, get-promise, get-asks-nothing}
 use Rattle.search.proofs.Words.{search-words}
-use Rattle.header.specs.Header.{header}
-use Rattle.header.proofs.Size.{fewest-pairs}
+use Rattle.search.proofs.Promises.{child-end-promise, child-end-asks-nothing, first-bits-promise, first-bits-asks-nothing}
+use Rattle.header.specs.Header.{headerAnswer, header}
+use Rattle.header.proofs.Size.{fewest-pairs, size-exactly}
 use Rattle.header.proofs.Demand2.{header-round-trip}
 use Rattle.header.proofs.RefusalLaws.{header-write-refusals, header-read-refusals}
 use Rattle.header.proofs.WrongWriters.{silent-writer-refuted, refusing-writer-refuted, roomless-writer-refuted, spoiling-writer-refuted}
 use Rattle.header.proofs.WrongReaders.{surplus-reader-refuted}
-use Rattle.header.proofs.Promises.{read-promise as header-read-promise, write-asks-nothing as header-write-asks-nothing, read-asks-nothing as header-read-asks-nothing}
+use Rattle.header.proofs.Promises.{one-reading, read-promise as header-read-promise, write-asks-nothing as header-write-asks-nothing, read-asks-nothing as header-read-asks-nothing}
 use Rattle.ipv6.proofs.Demand2.{form-round-trip}
 use Rattle.ipv6.proofs.RefusalLaws.{form-write-refusals, form-read-refusals}
 use Rattle.ipv6.proofs.WrongWriters.{silent-form-writer-refuted, refusing-form-writer-refuted, short-prefix-writer-refuted, roomless-form-writer-refuted, spoiling-form-writer-refuted}
 use Rattle.ipv6.proofs.WrongReaders.{surplus-form-reader-refuted}
-use Rattle.ipv6.proofs.Promises.{read-promise as form-read-promise, write-asks-nothing as form-write-asks-nothing, read-asks-nothing as form-read-asks-nothing}
-use Rattle.node.specs.Node.{fresh}
-use Rattle.node.proofs.Children.{isGood-fresh}
+use Rattle.ipv6.proofs.Promises.{one-formReading, read-promise as form-read-promise, write-asks-nothing as form-write-asks-nothing, read-asks-nothing as form-read-asks-nothing}
+use Rattle.node.specs.declared.Node.{Node}
+use Rattle.node.specs.Node.{addressIn, fresh}
+use Rattle.node.specs.Refusals.{IsGood}
+use Rattle.node.proofs.Children.{address-good, isGood-fresh}
 use Rattle.node.proofs.GivenChildren.{gives-children}
 use Rattle.node.proofs.RefusalLaws.{good-records, child-refusals}
 use Rattle.node.proofs.WrongRules.{refusesAll-refuted, rootIsHost-refuted, hostFirst-refuted, oneTooMany-refuted, shortOfLimit-refuted, addressBeside-refuted}
-use Rattle.node.proofs.Promises.{fresh-promise, fresh-asks-nothing, child-promise, child-asks-nothing}
-use Rattle.forward.specs.Forward.{HopAnswer}
-use Rattle.forward.proofs.RefusalLaws.{hop-refusals}
+use Rattle.node.proofs.Promises.{count-promise, count-asks-nothing, is-good-promise, is-good-asks-nothing, fresh-promise, fresh-asks-nothing, child-promise, child-asks-nothing}
+use Rattle.forward.specs.Forward.{stop, HopAnswer, hopAnswer, upTo, refusedHop, nextHop}
+use Rattle.forward.proofs.RefusalLaws.{hop-refusals, by-steps}
 use Rattle.forward.proofs.WrongRules.{zeroFirst-refuted}
-use Rattle.forward.proofs.Promises.{next-hop-promise, next-hop-asks-nothing}
+use Rattle.forward.proofs.Promises.{one-hop, next-hop-promise, next-hop-asks-nothing}
 use Rattle.packet.proofs.RefusalLaws.{packet-refusals}
 use Rattle.packet.proofs.WrongRules.{readingFirst-refuted}
 use Rattle.packet.proofs.Promises.{next-hop-promise as packet-next-hop-promise, next-hop-asks-nothing as packet-next-hop-asks-nothing}
 use Rattle.route.proofs.Turning.{turning-points}
+use Rattle.route.specs.Path.{sameKind, sameSteps, isAncestorOrSelf, turn, deeper, pathOf, path, hops}
 use Rattle.route.proofs.Length.{at-most-126}
+use Rattle.route.proofs.Listing.{up-and-down}
+use Rattle.batch.specs.Exported.{actionNumber, pasaHop}
+use Rattle.batch.proofs.Words.{batches}
+use Rattle.batch.proofs.Promises.{pasa-hop-promise, pasa-hop-asks-nothing, next-hops-promise as batch-next-hops-promise, next-hops-asks-nothing as batch-next-hops-asks-nothing}
+use Rattle.pasa.specs.Children.{nodeOf, pasaNode, pasaChild}
+use Rattle.pasa.specs.Bytes.{pasaWritten, pasaRead, pasaAddress}
+use Rattle.pasa.specs.Paths.{pasaListed}
+use Rattle.pasa.specs.Addresses.{hostAnswer}
 use Rattle.route.proofs.Words.{path-words}
 use Rattle.route.proofs.RefusalLaws.{path-refusals}
 use Rattle.route.proofs.Promises.{path-asks-nothing}
+use Rattle.line.specs.Line.{digitsOf, afterDigits, areAddress, afterSpace, parsed, digitText, addressText, decimal, lines, hopsText, refusedText, pathText, textFor, outputText}
 use Rattle.line.proofs.Exact.{exactly-the-line, output-fits}
 use Rattle.line.proofs.RefusalLaws.{line-refusals, answer-refusals}
 use Rattle.line.proofs.DecimalLaws.{decimal-reads-back}
 use Rattle.line.proofs.EdgeLaws.{edge}
 use Rattle.line.proofs.Promises.{answer-asks-nothing}
+use Rattle.known.specs.Known.{table}
 use Rattle.known.proofs.Proved.{known-values}
-use Rattle.tree.specs.Tree.{Request, InTree}
+use Rattle.tree.specs.Tree.{Request, Tree, InTree, Walk, here, along}
 use Rattle.tree.specs.Demand3.{Arrives}
 use Rattle.packet.specs.Packet.{packetHop}
 use Rattle.tree.proofs.Growth.{sound-grown}
 use Rattle.tree.proofs.Theorem.{demand-3}
 use Rattle.tree.proofs.WrongChildren.{sameChild-refuted, sharedCount-refuted, limitOnParent-refuted}
 use Rattle.tree.proofs.WrongHops.{refusesEverything-refuted, parentToAll-refuted, leaps-refuted, namesNobody-refuted, hostKeeps-refuted, hostDelivers-refuted, rootAsHost-refuted, lowBits-refuted, beforeLastBit-refuted, oneCount-refuted}
-use Rattle.pasa.proofs.Promises.{fresh-promise as pasa-fresh-promise, child-router-promise as pasa-child-router-promise, child-host-promise as pasa-child-host-promise, next-hop-promise as pasa-next-hop-promise, packet-next-hop-promise as pasa-packet-next-hop-promise, next-hops-promise as pasa-next-hops-promise, header-write-promise as pasa-header-write-promise, header-read-promise as pasa-header-read-promise, ipv6-write-promise as pasa-ipv6-write-promise, ipv6-read-promise as pasa-ipv6-read-promise, path-promise as pasa-path-promise, fresh-asks-nothing as pasa-fresh-asks-nothing, child-router-asks-nothing as pasa-child-router-asks-nothing, child-host-asks-nothing as pasa-child-host-asks-nothing, next-hop-asks-nothing as pasa-next-hop-asks-nothing, packet-next-hop-asks-nothing as pasa-packet-next-hop-asks-nothing, next-hops-asks-nothing as pasa-next-hops-asks-nothing, header-write-asks-nothing as pasa-header-write-asks-nothing, header-read-asks-nothing as pasa-header-read-asks-nothing, ipv6-write-asks-nothing as pasa-ipv6-write-asks-nothing, ipv6-read-asks-nothing as pasa-ipv6-read-asks-nothing, path-asks-nothing as pasa-path-asks-nothing}
+use Rattle.pasa.proofs.Promises.{node-of-promise as pasa-node-of-promise, node-of-asks-nothing as pasa-node-of-asks-nothing, fresh-promise as pasa-fresh-promise, child-router-promise as pasa-child-router-promise, child-host-promise as pasa-child-host-promise, next-hop-promise as pasa-next-hop-promise, packet-next-hop-promise as pasa-packet-next-hop-promise, next-hops-promise as pasa-next-hops-promise, header-write-promise as pasa-header-write-promise, header-read-promise as pasa-header-read-promise, ipv6-write-promise as pasa-ipv6-write-promise, ipv6-read-promise as pasa-ipv6-read-promise, path-promise as pasa-path-promise, fresh-asks-nothing as pasa-fresh-asks-nothing, child-router-asks-nothing as pasa-child-router-asks-nothing, child-host-asks-nothing as pasa-child-host-asks-nothing, next-hop-asks-nothing as pasa-next-hop-asks-nothing, packet-next-hop-asks-nothing as pasa-packet-next-hop-asks-nothing, next-hops-asks-nothing as pasa-next-hops-asks-nothing, header-write-asks-nothing as pasa-header-write-asks-nothing, header-read-asks-nothing as pasa-header-read-asks-nothing, ipv6-write-asks-nothing as pasa-ipv6-write-asks-nothing, ipv6-read-asks-nothing as pasa-ipv6-read-asks-nothing, path-asks-nothing as pasa-path-asks-nothing}
 use Rattle.pasa.proofs.AddressPromises.{parent-promise as pasa-parent-promise, depth-promise as pasa-depth-promise, bit-length-promise as pasa-bit-length-promise, is-host-promise as pasa-is-host-promise, interface-promise as pasa-interface-promise, parent-asks-nothing as pasa-parent-asks-nothing, depth-asks-nothing as pasa-depth-asks-nothing, bit-length-asks-nothing as pasa-bit-length-asks-nothing, is-host-asks-nothing as pasa-is-host-asks-nothing, interface-asks-nothing as pasa-interface-asks-nothing}
 use Rattle.claims.specs.Addresses.{Addresses, Children}
 use Rattle.claims.specs.Demand1.{ExactlyWhen, NothingBeside, OnlyTheNamed}
 use Rattle.claims.specs.Demand2.{Headers, Forms}
 use Rattle.claims.specs.Demand3.{treeOf, EveryList}
-use Rattle.claims.specs.Paths.{ThePath, TheLine}
-use Rattle.claims.specs.Excluded.{KnownRows, WrongNextHops, WrongChildren, WrongWriters}
+use Rattle.claims.specs.NextHop.{NextHop}
+use Rattle.claims.specs.Paths.{ThePath, exampleLine, exampleText, refusal11, hopsWord, binary, eachOnALine, TheLine}
+use Rattle.claims.specs.Structs.{Cases, OneAnswer, Fields}
+use Rattle.claims.specs.Excluded.{KnownRows, WrongNextHops, WrongChildren, WrongWritersAndReaders, HoldOfOurs}
 use Rattle.claims.specs.Code.{AsksNothing, AnswersAsDefined}
 use Rattle.claims.specs.Exports.{ExportsAskNothing, ExportsAnswerAsDefined}
 
@@ -74,12 +99,18 @@ parent-steps : (a : ℕ) (last : Step) (others : List Step) → IsAddress a → 
 unfolding parent above
 parent-steps a last others b e = let up = ap above e in (up, ap steps up ∙ steps-tail b (last ∷ []) others e)
 
+right-justified : (bs : List Bit) → (number (bs ++ (O ∷ [])) ≡ number bs * 2) × (number (bs ++ (I ∷ [])) ≡ number bs * 2 + 1)
+unfolding digit
+right-justified bs = (number-snoc bs O ∙ add-zero (number bs * 2), number-snoc bs I)
+
 pub addresses : Addresses
-unfolding depth
+unfolding depth bitLength bits bitsIn lastBit steps stepsOf
 addresses = record {
   stringsHeld = one-to-one .held;
   numbersShown = one-to-one .shown;
+  rightJustified = right-justified;
   lengths = λ a h. leadingZeros-bitLength h;
+  lengthOfExample = refl;
   cut = exactly-one-cut .has;
   cutOneWay = exactly-one-cut .only;
   spelt = exactly-one-cut .back;
@@ -91,6 +122,8 @@ addresses = record {
   depthIsSteps = λ a. refl;
   depthAtMost = depth-range .most;
   depthMet = (depth-range .least, depth-range .met .1);
+  silent = (parent-small (lit≤ tt), parent-small (lit≤ tt), refl, refl);
+  sameBits = search-words .same;
   prefixes = search-words .begins;
   prefixBySteps = search-words .bySteps;
   looked = search-words .looked;
@@ -102,11 +135,32 @@ children = record {
   goodRecords = good-records;
   raisesOne = child-refusals .without;
   spellsChild = λ n kind h e. gives-children .isChild n kind h e .spells;
-  oneStepMore = λ n kind h e. let given = gives-children .isChild n kind h e in (given .cut, given .parentOf, given .deeper);
+  oneStepMore = λ n kind h e. let given = gives-children .isChild n kind h e in (given .address, given .cut, given .parentOf, given .deeper);
   startsFresh = λ a. (refl, refl, refl);
   freshIsGood = λ a h. isGood-fresh h;
   keepsGood = gives-children .keepsGood;
   keepsAddress = gives-children .keepsAddress;
+}
+
+-- ---- the next hop
+
+-- "2. C is a host": nothing is below it
+host-rule : (n : Node) (d : ℕ) → IsGood n → addressIn n < 2 ^ 64 → IsAddress d → IsHost (addressIn n) → (d ≡ addressIn n → ⊥)
+    → nextHop n d ≡ upTo (parent (addressIn n))
+host-rule n d good f b host other =
+    let a = address-good n (good-records n .1 good) f in
+    by-steps n d good f b .elsewhere (λ w. other (sym (host-ancestorOrSelf a b (kinds .tested (addressIn n) .1 host) w)))
+
+pub next-hop : NextHop
+next-hop = record {
+  deliver = λ n d good f b. by-steps n d good f b .same;
+  host = host-rule;
+  elsewhere = λ n d good f b. by-steps n d good f b .elsewhere;
+  given = λ n d good f b. by-steps n d good f b .below;
+  notGiven = λ n d good f b. by-steps n d good f b .absent;
+  goesOn = hop-refusals .without;
+  fromPacket = packet-refusals .without;
+  forMany = batches;
 }
 
 -- ---- demand 1
@@ -125,12 +179,15 @@ exactly-when = record {
   aLine = answer-refusals .given;
 }
 
+shown : {r : HopAnswer} {k : ℕ} → r ≡ refusedHop k → (r .named ≡ 0) × (r .action ≡ stop)
+shown e = (ap (λ (r : HopAnswer). r .named) e, ap (λ (r : HopAnswer). r .action) e)
+
 pub nothing-beside : NothingBeside
 nothing-beside = record {
   anAddress = address-refusals .beside;
   aChild = child-refusals .beside;
-  aNextHop = λ n d h. ap (λ (r : HopAnswer). r .named) (hop-refusals .beside n d h);
-  aPacket = λ n p h. ap (λ (r : HopAnswer). r .named) (packet-refusals .beside n p h);
+  aNextHop = λ n d h. shown (hop-refusals .beside n d h);
+  aPacket = λ n p h. shown (packet-refusals .beside n p h);
   aHeaderOut = header-write-refusals .beside;
   aHeaderBack = header-read-refusals .beside;
   aFormOut = form-write-refusals .beside;
@@ -156,9 +213,12 @@ headers = record {
   sparesTheRest = λ a buffer n h done. header-round-trip .whereDone a buffer [] n h done .1;
   acceptsAddresses = λ p a k are e. let so = header-round-trip .writtenSo p a k are e in (so .0, so .1);
   acceptsTheWritten = λ p a k are e. header-round-trip .writtenSo p a k are e .2;
+  acceptsSo = header-read-refusals .without;
   allowedSize = λ a h. fewest-pairs a h .allowed;
   holds = λ a h. fewest-pairs a h .holds;
   fewest = λ a s h. fewest-pairs a h .fewest s;
+  sizes = size-exactly;
+  mostSignificantFirst = octets-one-to-one .mostFirst;
   octetsHold = λ k n h. octets-one-to-one .held k n h .2;
   octetsShown = λ os are. octets-one-to-one .shown os are .1;
   sameOctets = same-exactly;
@@ -169,6 +229,7 @@ forms = record {
   written = λ prefix a buffer e h room. form-round-trip .readsBack prefix a buffer e h room .0;
   readsBack = λ prefix a buffer n h done. let so = form-round-trip .whereDone prefix a buffer n h done in (so .0, so .1);
   sparesTheRest = λ prefix a buffer n h done. form-round-trip .whereDone prefix a buffer n h done .2;
+  acceptsSo = form-read-refusals .without;
   acceptsAddresses = λ prefix ipv6 a are e. let so = form-round-trip .writtenSo prefix ipv6 a are e in (so .0, so .1, so .2);
   acceptsTheWritten = λ prefix ipv6 a are e. form-round-trip .writtenSo prefix ipv6 a are e .3;
 }
@@ -180,6 +241,15 @@ module _ (rs : List Request) {a d : ℕ} (i : InTree a (treeOf rs)) (j : InTree 
   arrives : Arrives packetHop (treeOf rs) (header d ++ []) a d
   arrives = demand-3 rs .arrival a d (header d ++ []) i j (demand-3 rs .packets d [] (sound-grown rs .address d j) tt)
 
+-- hops are a length less one, and a walk has one node at least
+walk-some : {t : Tree} {a d : ℕ} {w : List ℕ} → Walk t a d w → 0 < length w
+walk-some (here i) = omega arith
+walk-some (along l walk) = omega arith
+
+no-shorter : (v w : List ℕ) → hops v ≤ hops w → 0 < length w → length v ≤ length w
+unfolding hops
+no-shorter v w h l = omega arith
+
 pub every-list : EveryList
 every-list = record {
   nodes = λ rs. demand-3 rs .nodes;
@@ -188,7 +258,7 @@ every-list = record {
   arrives = λ rs a d p i j packet. demand-3 rs .arrival a d p i j packet .theWay;
   overLinks = λ rs a d i j. arrives rs i j .overLinks;
   noNodeTwice = λ rs a d i j. arrives rs i j .once;
-  noShorterWalk = λ rs a d w i j walk. arrives rs i j .shortest w walk;
+  noShorterWalk = λ rs a d w i j walk. no-shorter (path a d) w (arrives rs i j .shortest w walk) (walk-some walk);
   absent = λ rs a d p i out packet.
       let stops = demand-3 rs .absence a d p i out packet in (
         stops .0,
@@ -205,30 +275,72 @@ every-list = record {
 
 pub the-path : ThePath
 the-path = record {
+  upAndDown = up-and-down;
   turnsAtAncestor = λ ss ts. (turning-points ss ts .ofFirst, turning-points ss ts .ofSecond);
   turnsAtDeepest = λ ss ts. turning-points ss ts .deepest;
   ancestors = path-words .ancestor;
-  sameStep = path-words .same;
+  equalKinds = path-words .sameKinds;
+  equalSteps = path-words .same;
   atMost126 = at-most-126;
   counts = λ a d words e. path-refusals .without a d words e .0;
 }
 
+-- what the example is computed by
+computed : Unit {0}
+unfolding outputText textFor parsed digitsOf afterDigits areAddress afterSpace same pathText lines hopsText refusedText addressText digitText decimal hops number numberFrom digit path pathOf turn isAncestorOrSelf sameSteps sameKind deeper steps stepsOf cut lastStep bits bitsIn lastBit addressOf spelled stepBits lastOf
+computed = tt
+
+spelt-bits : (bs : List Bit) → map digitText bs ≡ map binary bs
+unfolding digitText binary
+spelt-bits [] = refl
+spelt-bits (O ∷ bs) = ap (λ (l : List ℕ). 48 ∷ l) (spelt-bits bs)
+spelt-bits (I ∷ bs) = ap (λ (l : List ℕ). 49 ∷ l) (spelt-bits bs)
+
+spelt-lines : (p : List ℕ) → lines p ≡ eachOnALine p
+unfolding lines eachOnALine addressText
+spelt-lines [] = refl
+spelt-lines (a ∷ p) = ap₂ (λ (l m : List ℕ). l ++ (10 ∷ []) ++ m) (spelt-bits (bits a)) (spelt-lines p)
+
+spelt-path : (p : List ℕ) → pathText p ≡ hopsWord ++ decimal (hops p) ++ (10 ∷ []) ++ eachOnALine p
+unfolding pathText hopsText hopsWord
+spelt-path p = ap (λ (l : List ℕ). hopsText ++ decimal (hops p) ++ (10 ∷ []) ++ l) (spelt-lines p)
+
 pub the-line : TheLine
+unfolding computed exampleLine exampleText refusal11
 the-line = record {
   answers = line-refusals .without;
   reads = exactly-the-line .only;
   refuses = line-refusals .given;
   noThird = line-refusals .either;
+  example = refl;
+  refusedElse = refl;
+  spelt = spelt-path;
+  apart = line-refusals .apart;
+  longest = edge .full;
   pastTheLongest = edge .past;
   windowDecides = edge .enough;
+  fewHops = decimal-reads-back .hopsBelow;
   digitsSay = decimal-reads-back .value;
+  areDigits = decimal-reads-back .digits;
+  unpadded = decimal-reads-back .unpadded;
   fits = output-fits;
 }
 
 -- ---- known values and wrong rules
 
 pub known-rows : KnownRows
-known-rows = record { everyRowHolds = known-values }
+unfolding table
+known-rows = record { everyRowHolds = known-values; fifteen = refl }
+
+pub hold-of-ours : HoldOfOurs
+hold-of-ours = record {
+  demand1Child = child-refusals;
+  demand1Hop = hop-refusals;
+  demand1Packet = packet-refusals;
+  demand2Header = header-round-trip;
+  demand2Form = form-round-trip;
+  demand3 = demand-3;
+}
 
 pub wrong-next-hops : WrongNextHops
 wrong-next-hops = record {
@@ -259,8 +371,8 @@ wrong-children = record {
   withAnAddressBeside = addressBeside-refuted;
 }
 
-pub wrong-writers : WrongWriters
-wrong-writers = record {
+pub wrong-writers-and-readers : WrongWritersAndReaders
+wrong-writers-and-readers = record {
   silent = silent-writer-refuted;
   refusing = refusing-writer-refuted;
   withoutRoom = roomless-writer-refuted;
@@ -278,7 +390,18 @@ wrong-writers = record {
 
 pub asks-nothing : AsksNothing
 asks-nothing = record {
+  addressOf = of-asks-nothing;
   addressNew = new-asks-nothing;
+  addressBitLength = bit-length-asks-nothing;
+  addressIsHost = is-host-asks-nothing;
+  addressDepth = depth-asks-nothing;
+  addressParent = parent-asks-nothing;
+  octetsPut = put-asks-nothing;
+  octetsGet = get-asks-nothing;
+  searchChildEnd = child-end-asks-nothing;
+  searchFirstBits = first-bits-asks-nothing;
+  nodeCount = count-asks-nothing;
+  nodeIsGood = is-good-asks-nothing;
   nodeFresh = fresh-asks-nothing;
   nodeChild = child-asks-nothing;
   nextHopOf = next-hop-asks-nothing;
@@ -287,13 +410,27 @@ asks-nothing = record {
   headerRead = header-read-asks-nothing;
   formWrite = form-write-asks-nothing;
   formRead = form-read-asks-nothing;
-  pathOf = path-asks-nothing;
+  pathCall = path-asks-nothing;
   lineAnswer = answer-asks-nothing;
+  batchHop = pasa-hop-asks-nothing;
+  batchNextHops = batch-next-hops-asks-nothing;
+  pasaNodeOf = pasa-node-of-asks-nothing;
 }
 
 pub answers-as-defined : AnswersAsDefined
 answers-as-defined = record {
+  addressOf = of-promise;
   addressNew = new-promise;
+  addressBitLength = bit-length-promise;
+  addressIsHost = is-host-promise;
+  addressDepth = depth-promise;
+  addressParent = parent-promise;
+  octetsPut = λ κs number out out′ r h. h;
+  octetsGet = get-promise;
+  searchChildEnd = child-end-promise;
+  searchFirstBits = first-bits-promise;
+  nodeCount = count-promise;
+  nodeIsGood = is-good-promise;
   nodeFresh = fresh-promise;
   nodeChild = child-promise;
   nextHopOf = next-hop-promise;
@@ -302,8 +439,11 @@ answers-as-defined = record {
   headerRead = header-read-promise;
   formWrite = λ κs prefix a out out′ r h. h;
   formRead = form-read-promise;
-  pathOf = λ κs a d words words′ r h. h;
+  pathCall = λ κs a d words words′ r h. h;
   lineAnswer = λ κs input out out′ r h. h;
+  batchHop = pasa-hop-promise;
+  batchNextHops = batch-next-hops-promise;
+  pasaNodeOf = pasa-node-of-promise;
 }
 
 -- ---- the exports
@@ -346,4 +486,39 @@ exports-answer-as-defined = record {
   pasaBitLength = pasa-bit-length-promise;
   pasaIsHost = pasa-is-host-promise;
   pasaInterface = pasa-interface-promise;
+}
+
+-- ---- answers and structs, number by number
+
+pub cases : Cases
+unfolding headerAnswer hopAnswer
+cases = record {
+  valid = λ a. refl;
+  notMade = λ k. refl;
+  found = λ a place. refl;
+  notRead = λ k. refl;
+  delivers = λ a. refl;
+  passesUp = λ a. refl;
+  passesDown = λ a. refl;
+  stops = λ k. refl;
+}
+
+pub one-answer : OneAnswer
+one-answer = record { anAddress = one-made; aHeader = one-reading; aForm = one-formReading; aHop = one-hop }
+
+pub fields : Fields
+unfolding nodeOf pasaNode pasaChild pasaHop actionNumber pasaWritten pasaRead pasaAddress pasaListed hostAnswer
+fields = record {
+  taken = λ r. (refl, refl, refl);
+  node = λ n. (refl, refl, refl);
+  child = λ g. (refl, refl, refl);
+  hop = λ r. (refl, refl, refl);
+  action = (refl, refl, refl, refl);
+  written = λ w. (refl, refl);
+  read = λ r. (refl, refl, refl);
+  address = λ r. (refl, refl);
+  listed = λ l. (refl, refl);
+  isAHost = λ a e. rw e;
+  isNoHost = λ a e. rw e;
+  interfaceNumber = refl;
 }

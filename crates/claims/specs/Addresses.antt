@@ -1,12 +1,12 @@
 -- "What an address is" and "A node and its children".
-use Prim.Native.Nat.{ℕ, _+_, _^_, _<_, _≤_}
+use Prim.Native.Nat.{ℕ, _+_, _*_, _^_, _<_, _≤_}
 use mathlib.Core.Path.{_≡_}
 use mathlib.Core.Bool.{true}
 use mathlib.Core.Logic.{_⊎_, _↔_}
-use mathlib.Core.List.{List, _∷_, _++_}
+use mathlib.Core.List.{List, [], _∷_, _++_}
 use lib.ListN.{length}
 use lib.Count.{leadingZeros}
-use Rattle.address.specs.Bits.{Bit, I, bits, number, root}
+use Rattle.address.specs.Bits.{Bit, O, I, bits, number, root}
 use Rattle.address.specs.Steps.{Step, child, steps, stepBits, spelled, addressOf}
 use Rattle.address.specs.Address.{bitLength, isHost, depth, parent}
 use Rattle.address.specs.Numbers.{IsAddressString, IsAddress}
@@ -14,7 +14,7 @@ use Rattle.address.specs.Cuts.{AreSteps}
 use Rattle.address.specs.Ancestors.{AncestorOrSelf}
 use Rattle.address.specs.Kinds.{EndsIn, IsRoot, IsRouter, IsHost}
 use Rattle.address.specs.declared.Kind.{Kind}
-use Rattle.search.specs.Search.{isPrefix}
+use Rattle.search.specs.Search.{sameBit, isPrefix}
 use Rattle.search.specs.Exactly.{Stops}
 use Rattle.node.specs.Node.{addressIn, count, raised, isGood, fresh, childOf}
 use Rattle.node.specs.Refusals.{IsGood}
@@ -25,8 +25,11 @@ pub record Addresses : Type 0 where
   -- but zero.": strings and numbers correspond one to one
   pub stringsHeld : (bs : List Bit) → IsAddressString bs → IsAddress (number bs) × (bits (number bs) ≡ bs)
   pub numbersShown : (a : ℕ) → IsAddress a → IsAddressString (bits a) × (number (bits a) ≡ a)
-  -- "Its length is 64 less the count of leading zeros"
+  -- "right-justified": the last bit is worth 1, and a bit more doubles what stands before it
+  pub rightJustified : (bs : List Bit) → (number (bs ++ (O ∷ [])) ≡ number bs * 2) × (number (bs ++ (I ∷ [])) ≡ number bs * 2 + 1)
+  -- "Its length is 64 less the count of leading zeros". "The example there, 'Len(0x00010010) = 5', means the binary digits 00010010."
   pub lengths : (a : ℕ) → a < 2 ^ 64 → leadingZeros 64 a + bitLength a ≡ 64
+  pub lengthOfExample : bitLength 0b00010010 ≡ 5
   -- "After the first 1, the string is cut into steps .. Every address has exactly one such reading."
   pub cut : (a : ℕ) → IsAddress a → AreSteps (steps a) × (spelled (steps a) ≡ bits a)
   pub cutOneWay : (a : ℕ) (ss : List Step) → IsAddress a → AreSteps ss → spelled ss ≡ bits a → ss ≡ steps a
@@ -43,7 +46,10 @@ pub record Addresses : Type 0 where
   pub depthIsSteps : (a : ℕ) → depth a ≡ length (steps a)
   pub depthAtMost : (a : ℕ) → IsAddress a → depth a ≤ 63
   pub depthMet : (depth 1 ≡ 0) × (depth (2 ^ 63) ≡ 63)
+  -- the parent of the root and of zero, and zero's depth and length: the document is silent, and all are 0
+  pub silent : (parent 1 ≡ 0) × (parent 0 ≡ 0) × (depth 0 ≡ 0) × (bitLength 0 ≡ 0)
   -- "C .. is a prefix of D", of the root or a router C: in bits there is a rest, and in steps C's begin D's
+  pub sameBits : (b c : Bit) → (sameBit b c ≡ true) ↔ (b ≡ c)
   pub prefixes : (cs ds : List Bit) → (isPrefix cs ds ≡ true) ↔ ((rest : List Bit) × (ds ≡ cs ++ rest))
   pub prefixBySteps : (c d : ℕ) → IsAddress c → IsAddress d → IsRoot c ⊎ IsRouter c
       → (isPrefix (bits c) (bits d) ≡ true) ↔ AncestorOrSelf (steps c) (steps d)
@@ -58,9 +64,10 @@ pub record Children : Type 0 where
   -- "and the child's address: own address, then as many ones as the old count of that kind, then 0 for a router or 1 for a host"
   pub spellsChild : (n : Node) (kind : Kind) → addressIn n < 2 ^ 64 → childOf n kind .refusal ≡ 0
       → bits (childOf n kind .child .number) ≡ bits (addressIn n) ++ stepBits (child kind (count kind n))
-  -- so a child has one step more, and its parent is the node
+  -- so a child is an address of one step more, and its parent is the node
   pub oneStepMore : (n : Node) (kind : Kind) → addressIn n < 2 ^ 64 → childOf n kind .refusal ≡ 0
-      → (steps (childOf n kind .child .number) ≡ child kind (count kind n) ∷ steps (addressIn n))
+      → IsAddress (childOf n kind .child .number)
+      × (steps (childOf n kind .child .number) ≡ child kind (count kind n) ∷ steps (addressIn n))
       × (parent (childOf n kind .child .number) ≡ addressIn n)
       × (depth (childOf n kind .child .number) ≡ depth (addressIn n) + 1)
   -- "The child's own record starts with both counts 0.", and is good

@@ -1,28 +1,53 @@
 -- What the code promises is what the claims speak of. `Asked` and `Learnt` are read off the functions' own contracts: what a caller must show, and
--- what it learns of the result and of all that was lent. Each function asks nothing, and what it answers is what its definition says.
-use Prim.Native.Nat.{ℕ}
+-- what it learns of the result and of all that was lent. Each
+-- public function asks nothing, and what it answers is what its definition says; the exports have a page of their own.
+use Prim.Native.Nat.{ℕ, _%_, _^_}
 use mathlib.Core.Path.{_≡_}
+use mathlib.Core.Bool.{Bool}
 use mathlib.Core.List.{List}
+use lib.ListN.{length}
 use contract.Lifetimes.{Lfts}
 use denote.Ref.{RefT, now}
 use Rattle.address.specs.declared.Address.{Address}
 use Rattle.address.specs.declared.Kind.{Kind}
 use Rattle.address.specs.declared.Made.{Made}
-use Rattle.address.specs.Address.{madeAnswer, made}
+use Rattle.address.specs.Bits.{bits}
+use Rattle.address.specs.Address.{madeAnswer, made, bitLength, isHost, depth, parent}
 use Rattle.octets.specs.declared.Written.{Written}
+use Rattle.octets.specs.Octets.{octets, value}
+use Rattle.search.specs.Search.{childEnd, firstBits}
 use Rattle.header.specs.declared.Reading.{Reading}
 use Rattle.header.specs.Header.{headerAnswer, writing, reading}
 use Rattle.ipv6.specs.Form.{formWriting, formReading}
 use Rattle.node.specs.declared.Node.{Node}
 use Rattle.node.specs.declared.Given.{Given}
-use Rattle.node.specs.Node.{fresh, childOf}
+use Rattle.node.specs.Node.{fresh, count, isGood, childOf}
 use Rattle.forward.specs.declared.Hop.{Hop}
 use Rattle.forward.specs.Forward.{hopAnswer, nextHop}
 use Rattle.packet.specs.Packet.{packetHop}
 use Rattle.route.specs.declared.Listed.{Listed}
 use Rattle.route.specs.Path.{listing}
 use Rattle.line.specs.Line.{answering}
+use Rattle.batch.specs.declared.PasaHop.{PasaHop}
+use Rattle.batch.specs.Exported.{pasaHop}
+use Rattle.batch.specs.Batch.{BatchEffect, nextHops}
+use Rattle.pasa.specs.declared.children.PasaNode.{PasaNode}
+use Rattle.pasa.specs.Children.{nodeOf}
+use Rattle.address.proofs.Address.of.Reads as of-reads
 use Rattle.address.proofs.Address.new.Reads as new-reads
+use Rattle.address.proofs.Address.bit_length.Reads as bit-length-reads
+use Rattle.address.proofs.Address.is_host.Reads as is-host-reads
+use Rattle.address.proofs.Address.depth.Reads as depth-reads
+use Rattle.address.proofs.Address.parent.Reads as parent-reads
+use Rattle.octets.proofs.put.Reads as put-reads
+use Rattle.octets.proofs.get.Reads as get-reads
+use Rattle.search.proofs.child_end.Reads as child-end-reads
+use Rattle.search.proofs.first_bits.Reads as first-bits-reads
+use Rattle.node.proofs.Node.count.Reads as count-reads
+use Rattle.node.proofs.Node.is_good.Reads as is-good-reads
+use Rattle.batch.proofs.pasa_hop.Reads as pasa-hop-reads
+use Rattle.batch.proofs.next_hops.Reads as next-hops-reads
+use Rattle.pasa.proofs.children.node_of.Reads as node-of-reads
 use Rattle.node.proofs.Node.fresh.Reads as fresh-reads
 use Rattle.node.proofs.Node.child.Reads as child-reads
 use Rattle.forward.proofs.next_hop.Reads as next-hop-reads
@@ -39,7 +64,18 @@ abbrev pub Slice : Type 0
 Slice = RefT (List ℕ)
 
 pub record AsksNothing : Type 0 where
+  pub addressOf : (n : ℕ) → of-reads.Asked tt (n, tt)
   pub addressNew : (n : ℕ) → new-reads.Asked tt (n, tt)
+  pub addressBitLength : (a : Address) → bit-length-reads.Asked tt (a, tt)
+  pub addressIsHost : (a : Address) → is-host-reads.Asked tt (a, tt)
+  pub addressDepth : (a : Address) → depth-reads.Asked tt (a, tt)
+  pub addressParent : (a : Address) → parent-reads.Asked tt (a, tt)
+  pub octetsPut : (κs : Lfts 1) (number : ℕ) (out : Slice) → put-reads.Asked κs (number, (out, tt))
+  pub octetsGet : (κs : Lfts 1) (from : Slice) → get-reads.Asked κs (from, tt)
+  pub searchChildEnd : (a : Address) (from : ℕ) → child-end-reads.Asked tt (a, (from, tt))
+  pub searchFirstBits : (a : Address) (count : ℕ) → first-bits-reads.Asked tt (a, (count, tt))
+  pub nodeCount : (n : Node) (kind : Kind) → count-reads.Asked tt (n, (kind, tt))
+  pub nodeIsGood : (n : Node) → is-good-reads.Asked tt (n, tt)
   pub nodeFresh : (a : Address) → fresh-reads.Asked tt (a, tt)
   pub nodeChild : (n : Node) (kind : Kind) → child-reads.Asked tt (n, (kind, tt))
   pub nextHopOf : (n : Node) (d : Address) → next-hop-reads.Asked tt (n, (d, tt))
@@ -48,11 +84,28 @@ pub record AsksNothing : Type 0 where
   pub headerRead : (κs : Lfts 1) (p : Slice) → header-read-reads.Asked κs (p, tt)
   pub formWrite : (κs : Lfts 2) (prefix : Slice) (a : Address) (out : Slice) → form-write-reads.Asked κs (prefix, (a, (out, tt)))
   pub formRead : (κs : Lfts 2) (prefix ipv6 : Slice) → form-read-reads.Asked κs (prefix, (ipv6, tt))
-  pub pathOf : (κs : Lfts 1) (a d : Address) (words : Slice) → path-reads.Asked κs (a, (d, (words, tt)))
+  pub pathCall : (κs : Lfts 1) (a d : Address) (words : Slice) → path-reads.Asked κs (a, (d, (words, tt)))
   pub lineAnswer : (κs : Lfts 2) (input out : Slice) → line-reads.Asked κs (input, (out, tt))
+  pub batchHop : (h : Hop) → pasa-hop-reads.Asked tt (h, tt)
+  pub batchNextHops : (κs : Lfts 4) (n : Node) (ds nodes actions refusals : Slice)
+      → next-hops-reads.Asked κs (n, (ds, (nodes, (actions, (refusals, tt)))))
+  pub pasaNodeOf : (n : PasaNode) → node-of-reads.Asked tt (n, tt)
 
 -- `out′` and `words′` are what is lent, at the end
 pub record AnswersAsDefined : Type 0 where
+  pub addressOf : (n : ℕ) (r : Address) → of-reads.Learnt tt (n, tt) r (n, tt) → r .number ≡ n
+  pub addressBitLength : (a : Address) (r : ℕ) → bit-length-reads.Learnt tt (a, tt) r (a, tt) → r ≡ bitLength (a .number)
+  pub addressIsHost : (a : Address) (r : Bool) → is-host-reads.Learnt tt (a, tt) r (a, tt) → r ≡ isHost (a .number)
+  pub addressDepth : (a : Address) (r : ℕ) → depth-reads.Learnt tt (a, tt) r (a, tt) → r ≡ depth (a .number)
+  pub addressParent : (a r : Address) → parent-reads.Learnt tt (a, tt) r (a, tt) → r .number ≡ parent (a .number)
+  pub octetsPut : (κs : Lfts 1) (number : ℕ) (out out′ : Slice) (r : Unit {0}) → put-reads.Learnt κs (number, (out, tt)) r (number, (out′, tt))
+      → now out′ ≡ octets (length (now out)) number
+  pub octetsGet : (κs : Lfts 1) (from : Slice) (r : ℕ) → get-reads.Learnt κs (from, tt) r (from, tt) → r ≡ value (now from) % 2 ^ 64
+  pub searchChildEnd : (a : Address) (from r : ℕ) → child-end-reads.Learnt tt (a, (from, tt)) r (a, (from, tt)) → r ≡ childEnd from (bits (a .number))
+  pub searchFirstBits : (a : Address) (count : ℕ) (r : Address) → first-bits-reads.Learnt tt (a, (count, tt)) r (a, (count, tt))
+      → r .number ≡ firstBits count (a .number)
+  pub nodeCount : (n : Node) (kind : Kind) (r : ℕ) → count-reads.Learnt tt (n, (kind, tt)) r (n, (kind, tt)) → r ≡ count kind n
+  pub nodeIsGood : (n : Node) (r : Bool) → is-good-reads.Learnt tt (n, tt) r (n, tt) → r ≡ isGood n
   pub addressNew : (n : ℕ) (r : Made) → new-reads.Learnt tt (n, tt) r (n, tt) → madeAnswer r ≡ made n
   pub nodeFresh : (a : Address) (r : Node) → fresh-reads.Learnt tt (a, tt) r (a, tt) → r ≡ fresh (a .number)
   pub nodeChild : (n : Node) (kind : Kind) (r : Given) → child-reads.Learnt tt (n, (kind, tt)) r (n, (kind, tt)) → r ≡ childOf n kind
@@ -67,8 +120,14 @@ pub record AnswersAsDefined : Type 0 where
       → (r ≡ formWriting (now prefix) (a .number) (now out) .answer) × (now out′ ≡ formWriting (now prefix) (a .number) (now out) .buffer)
   pub formRead : (κs : Lfts 2) (prefix ipv6 : Slice) (r : Made) → form-read-reads.Learnt κs (prefix, (ipv6, tt)) r (prefix, (ipv6, tt))
       → madeAnswer r ≡ formReading (now prefix) (now ipv6)
-  pub pathOf : (κs : Lfts 1) (a d : Address) (words words′ : Slice) (r : Listed)
+  pub pathCall : (κs : Lfts 1) (a d : Address) (words words′ : Slice) (r : Listed)
       → path-reads.Learnt κs (a, (d, (words, tt))) r (a, (d, (words′, tt)))
       → (r ≡ listing (a .number) (d .number) (now words) .answer) × (now words′ ≡ listing (a .number) (d .number) (now words) .words)
   pub lineAnswer : (κs : Lfts 2) (input out out′ : Slice) (r : Written) → line-reads.Learnt κs (input, (out, tt)) r (input, (out′, tt))
       → (r ≡ answering (now input) (now out) .answer) × (now out′ ≡ answering (now input) (now out) .buffer)
+  pub batchHop : (h : Hop) (r : PasaHop) → pasa-hop-reads.Learnt tt (h, tt) r (h, tt) → r ≡ pasaHop (hopAnswer h)
+  pub batchNextHops : (κs : Lfts 4) (n : Node) (ds nodes actions refusals nodes′ actions′ refusals′ : Slice) (r : ℕ)
+      → next-hops-reads.Learnt κs (n, (ds, (nodes, (actions, (refusals, tt))))) r (n, (ds, (nodes′, (actions′, (refusals′, tt)))))
+      → _≡_ {A = BatchEffect} record { count = r; nodes = now nodes′; actions = now actions′; refusals = now refusals′ }
+      (nextHops n (now ds) (now nodes) (now actions) (now refusals))
+  pub pasaNodeOf : (n : PasaNode) (r : Node) → node-of-reads.Learnt tt (n, tt) r (n, tt) → r ≡ nodeOf n

@@ -17,7 +17,7 @@ use Rattle.ipv6.specs.Refusals.{formWritingOrder, formReadingOrder}
 use Rattle.node.specs.Node.{addressIn, childOf}
 use Rattle.node.specs.Refusals.{childOrder}
 use Rattle.node.specs.declared.Node.{Node}
-use Rattle.forward.specs.Forward.{nextHop}
+use Rattle.forward.specs.Forward.{stop, nextHop}
 use Rattle.forward.specs.Refusals.{hopOrder}
 use Rattle.packet.specs.Packet.{packetHop}
 use Rattle.packet.specs.Refusals.{packetOrder}
@@ -47,7 +47,7 @@ pub record ExactlyWhen : Type 0 where
   pub aFormBack : (prefix ipv6 : List ℕ) → GivenExactly (formReadingOrder prefix ipv6) (formReading prefix ipv6 .refusal)
   -- "For a path 9, 10."
   pub aPath : (a d : ℕ) (words : List ℕ) → GivenExactly (pathOrder a d words) (listing a d words .answer .refusal)
-  -- the path program's work: 10 where the lent output is too short; 11 is its text (Paths)
+  -- the path program's work: 10 where the lent output is too short; 11 is no number here but its text (Paths)
   pub aLine : (input out : List ℕ) → GivenExactly (answerOrder input out) (answering input out .answer .refusal)
 
 -- "With any refusal the address, place, hop count and every other number returned beside its own are 0, a returned record is the one handed in,
@@ -55,8 +55,8 @@ pub record ExactlyWhen : Type 0 where
 pub record NothingBeside : Type 0 where
   pub anAddress : (number : ℕ) → (made number .refusal ≡ 0 → ⊥) → made number .address ≡ 0
   pub aChild : (n : Node) (kind : Kind) → (childOf n kind .refusal ≡ 0 → ⊥) → (childOf n kind .child .number ≡ 0) × (childOf n kind .node ≡ n)
-  pub aNextHop : (n : Node) (d : ℕ) → (nextHop n d .refusal ≡ 0 → ⊥) → nextHop n d .named ≡ 0
-  pub aPacket : (n : Node) (p : List ℕ) → (packetHop n p .refusal ≡ 0 → ⊥) → packetHop n p .named ≡ 0
+  pub aNextHop : (n : Node) (d : ℕ) → (nextHop n d .refusal ≡ 0 → ⊥) → (nextHop n d .named ≡ 0) × (nextHop n d .action ≡ stop)
+  pub aPacket : (n : Node) (p : List ℕ) → (packetHop n p .refusal ≡ 0 → ⊥) → (packetHop n p .named ≡ 0) × (packetHop n p .action ≡ stop)
   pub aHeaderOut : (a : ℕ) (buffer : List ℕ) → (writing a buffer .answer .refusal ≡ 0 → ⊥)
       → (writing a buffer .answer .count ≡ 0) × (writing a buffer .buffer ≡ buffer)
   pub aHeaderBack : (p : List ℕ) → (reading p .refusal ≡ 0 → ⊥) → (reading p .address ≡ 0) × (reading p .place ≡ 0)

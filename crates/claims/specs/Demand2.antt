@@ -1,19 +1,21 @@
 -- Demand 2: "Every address we write as a header or as IPv6 reads back as itself, and every header or IPv6 form we accept is the one we would have
 -- written."
-use Prim.Native.Nat.{ℕ, _^_, _≤_, _<_}
+use Prim.Native.Nat.{ℕ, _+_, _*_, _^_, _≤_, _<_}
 use mathlib.Core.Path.{_≡_}
 use mathlib.Core.Logic.{_↔_}
 use mathlib.Core.Bool.{true}
-use mathlib.Core.List.{List, _++_}
+use mathlib.Core.List.{List, _∷_, _++_}
 use lib.ListN.{length, take, drop}
 use Rattle.address.specs.Numbers.{IsAddress}
 use Rattle.address.specs.Address.{validAddress}
 use Rattle.octets.specs.Octets.{AreOctets, octets, value, same, wrote}
-use Rattle.header.specs.Header.{IsSize, size, place, writing, reading, found}
+use Rattle.header.specs.Header.{IsSize, size, sizeAllowed, place, writing, reading, found}
+use Rattle.header.specs.Refusals.{AcceptedHeader}
 use Rattle.ipv6.specs.Form.{formWriting, formReading}
+use Rattle.ipv6.specs.Refusals.{AcceptedForm}
 
 pub record Headers : Type 0 where
-  -- in every buffer that has room the header is written, and the buffer reads as the address; what stood behind is the payload
+  -- in every buffer that has room the header is written
   pub written : (a : ℕ) (buffer : List ℕ) → IsAddress a → place a ≤ length buffer → writing a buffer .answer ≡ wrote (place a)
   -- in every buffer, with any payload behind it: wherever the writer is done, with n octets, what stands there reads as the address at place n
   pub readsBack : (a : ℕ) (buffer payload : List ℕ) (n : ℕ) → a < 2 ^ 64 → writing a buffer .answer ≡ wrote n
@@ -25,13 +27,21 @@ pub record Headers : Type 0 where
   pub acceptsAddresses : (p : List ℕ) (a k : ℕ) → AreOctets p → reading p ≡ found a k → IsAddress a × (k ≤ length p)
   pub acceptsTheWritten : (p : List ℕ) (a k : ℕ) → AreOctets p → reading p ≡ found a k → (buffer : List ℕ) → k ≤ length buffer
       → (writing a buffer .answer ≡ wrote k) × (take k (writing a buffer .buffer) ≡ take k p)
+  -- "octet 0xF1 ..; octet 100sssss, where sssss is the number of address octets less one ..; octet 15 as the type ..; the address, most
+  -- significant octet first; the payload": whatever is accepted is laid out so, and the place is behind the address
+  pub acceptsSo : (p : List ℕ) → reading p .refusal ≡ 0 → AcceptedHeader p (reading p .address) (reading p .place)
   -- "The address takes the fewest pairs of octets that hold it: 2, 4, 6 or 8 octets"
   pub allowedSize : (a : ℕ) → IsAddress a → IsSize (size a)
   pub holds : (a : ℕ) → IsAddress a → a < 256 ^ size a
   pub fewest : (a s : ℕ) → IsAddress a → IsSize s → a < 256 ^ s → size a ≤ s
-  -- "most significant octet first": octets give their number back, and numbers their octets
+  -- the test for a size is right about every size that the second octet can say
+  pub sizes : (s : ℕ) → 0 < s → (sizeAllowed s ≡ true) ↔ IsSize s
+  -- "most significant octet first"
+  pub mostSignificantFirst : (o : ℕ) (os : List ℕ) → value (o ∷ os) ≡ o * 256 ^ length os + value os
+  -- octets give their number back, and numbers their octets
   pub octetsHold : (k n : ℕ) → n < 256 ^ k → value (octets k n) ≡ n
   pub octetsShown : (os : List ℕ) → AreOctets os → octets (length os) (value os) ≡ os
+  -- the test for the same octets
   pub sameOctets : (xs ys : List ℕ) → (same xs ys ≡ true) ↔ (xs ≡ ys)
 
 pub record Forms : Type 0 where
@@ -43,6 +53,8 @@ pub record Forms : Type 0 where
       → (n ≡ 16) × (formReading prefix (take 16 (formWriting prefix a buffer .buffer)) ≡ validAddress a)
   pub sparesTheRest : (prefix : List ℕ) (a : ℕ) (buffer : List ℕ) (n : ℕ) → a < 2 ^ 64 → formWriting prefix a buffer .answer ≡ wrote n
       → drop 16 (formWriting prefix a buffer .buffer) ≡ drop 16 buffer
+  -- "prefix of 8 octets, then the address in 8 octets": whatever is accepted is laid out so
+  pub acceptsSo : (prefix ipv6 : List ℕ) → formReading prefix ipv6 .refusal ≡ 0 → AcceptedForm prefix ipv6 (formReading prefix ipv6 .address)
   -- whatever reads as an address is 16 octets behind a prefix of 8, and those that we write into any buffer that holds them
   pub acceptsAddresses : (prefix ipv6 : List ℕ) (a : ℕ) → AreOctets ipv6 → formReading prefix ipv6 ≡ validAddress a
       → IsAddress a × (length prefix ≡ 8) × (length ipv6 ≡ 16)

@@ -3,6 +3,7 @@
 use Prim.Native.Nat.{ℕ, _≤_}
 use mathlib.Core.Path.{_≡_}
 use mathlib.Core.List.{List, _∷_, _++_}
+use lib.ListN.{length}
 use Rattle.address.specs.Bits.{root}
 use Rattle.address.specs.Address.{depth}
 use Rattle.address.specs.Numbers.{IsAddress}
@@ -10,7 +11,7 @@ use Rattle.octets.specs.Octets.{AreOctets}
 use Rattle.header.specs.Header.{header}
 use Rattle.node.specs.Node.{childOf}
 use Rattle.packet.specs.Packet.{packetHop}
-use Rattle.route.specs.Path.{path, hops}
+use Rattle.route.specs.Path.{path}
 use Rattle.tree.specs.Tree.{Request, Tree, grown, givenIn, addresses, InTree, AllDiffer, Walk}
 use Rattle.tree.specs.Way.{IsPacket, TheWay, deliveredAt, stoppedAt}
 use Rattle.tree.specs.Demand3.{IsAncestor}
@@ -43,9 +44,9 @@ pub record EveryList : Type 0 where
   pub overLinks : (rs : List Request) (a d : ℕ) → InTree a (treeOf rs) → InTree d (treeOf rs) → Walk (treeOf rs) a d (path a d)
   -- "and meets no node twice."
   pub noNodeTwice : (rs : List Request) (a d : ℕ) → InTree a (treeOf rs) → InTree d (treeOf rs) → AllDiffer (path a d)
-  -- "Every other walk over those links from the first to the second has at least as many hops."
+  -- "Every other walk over those links from the first to the second has at least as many hops.": "Its hops are its length less one."
   pub noShorterWalk : (rs : List Request) (a d : ℕ) (w : List ℕ) → InTree a (treeOf rs) → InTree d (treeOf rs) → Walk (treeOf rs) a d w
-      → hops (path a d) ≤ hops w
+      → length (path a d) ≤ length w
   -- "A packet started at any node, for an address not in that tree, stops with refusal 7 at the address's deepest ancestor that is in it."
   pub absent : (rs : List Request) (a d : ℕ) (p : List ℕ) → InTree a (treeOf rs) → (InTree d (treeOf rs) → ⊥) → IsPacket p d
       → (x : ℕ) × StopsAtDeepest rs p a d x

@@ -1,6 +1,8 @@
 -- The known values of document 01 that are marked P, and the wrong rules that it names, and some more: each is refuted through the claim that
 -- excludes it.
+use mathlib.Core.Path.{_≡_}
 use mathlib.Core.List.{List}
+use lib.ListN.{length}
 use Rattle.header.specs.Header.{writing, reading}
 use Rattle.header.specs.RoundTrip.{HeaderRoundTrip}
 use Rattle.header.specs.WrongWriters.{silentWriter, refusingWriter, roomlessWriter, spoilingWriter}
@@ -12,6 +14,7 @@ use Rattle.ipv6.specs.WrongReaders.{surplusFormReader}
 use Rattle.node.specs.Node.{childOf}
 use Rattle.node.specs.Refusals.{ChildRefusals}
 use Rattle.node.specs.WrongRules.{refusesAll, rootIsHost, hostFirst, oneTooMany, shortOfLimit, addressBeside}
+use Rattle.forward.specs.Forward.{nextHop}
 use Rattle.forward.specs.Refusals.{HopRefusals}
 use Rattle.forward.specs.WrongRules.{zeroFirst}
 use Rattle.packet.specs.Packet.{packetHop}
@@ -27,6 +30,17 @@ use Rattle.tree.specs.WrongHops.{refusesEverything, parentToAll, leaps, namesNo
 -- "Cases marked P are proved, gathered in a single table under one claim."
 pub record KnownRows : Type 0 where
   pub everyRowHolds : AllHold table
+  -- fourteen sentences carry a P, and one of them has two answers
+  pub fifteen : length table ≡ 15
+
+-- the claims that exclude wrong rules hold of ours, whole
+pub record HoldOfOurs : Type 0 where
+  pub demand1Child : ChildRefusals childOf
+  pub demand1Hop : HopRefusals nextHop
+  pub demand1Packet : PacketRefusals packetHop
+  pub demand2Header : HeaderRoundTrip writing reading
+  pub demand2Form : FormRoundTrip formWriting formReading
+  pub demand3 : (rs : List Request) → Demand3 childOf packetHop rs
 
 -- demand 3 is false of these rules
 abbrev pub FailsDemand3 : ChildRule → HopRule → Type 0
@@ -71,7 +85,7 @@ pub record WrongChildren : Type 0 where
   pub shortOfTheLimit : ChildRefusals shortOfLimit → ⊥
   pub withAnAddressBeside : ChildRefusals addressBeside → ⊥
 
-pub record WrongWriters : Type 0 where
+pub record WrongWritersAndReaders : Type 0 where
   -- "One that writes no header yet says done"
   pub silent : HeaderRoundTrip silentWriter reading → ⊥
   pub refusing : HeaderRoundTrip refusingWriter reading → ⊥

@@ -1,7 +1,9 @@
--- The front page: what is claimed, each sentence of the papers a line of its own with its quantifiers written out, at the definitions that the
--- functions promise to equal. proofs/ takes each line from the record that carries it. Read in this order:
--- what an address is
+-- The front page: what is claimed of the functions, each claim a line with its quantifiers written out, at the definitions that the functions promise
+-- to equal. proofs/ takes each line from the record that carries it. Read in this order:
+-- what an address is, and a node and its children
 pub mod Addresses
+-- the next hop: rules 1 to 4
+pub mod NextHop
 -- demand 1: refusals, given exactly when the document says, and nothing beside them
 pub mod Demand1
 -- demand 2: what is written reads back, and what is accepted is what would have been written
@@ -12,7 +14,9 @@ pub mod Demand3
 pub mod Paths
 -- the known values, and the wrong rules that are excluded
 pub mod Excluded
--- what the code promises is what the claims speak of
+-- what the code promises is what the claims speak of, and no function asks anything
 pub mod Code
+-- the answers' cases and the exported structs, number by number
+pub mod Structs
 -- and what the archive's exports promise
 pub mod Exports
