@@ -1,5 +1,5 @@
 -- Demand 3's proof, in two halves: every grown tree is sound, and in every sound tree packets go by the path. Beside it, the wrong rules that
--- the claim refutes, and the ties to the functions' contracts.
+-- the claim refutes.
 pub mod Sound
 pub mod Trees
 pub mod Growth
