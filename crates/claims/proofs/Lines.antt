@@ -1,30 +1,35 @@
 -- The front page's lines, each taken from the record that carries it: a clause that is dropped there breaks the page. Assumes nothing.
-use Prim.Native.Nat.{ℕ, _+_, _*_, _^_, _<_, _≤_}
+use Prim.Native.Nat.{ℕ, _+_, _*_, _-_, _^_, _<_, _≤_}
 use mathlib.Core.Path.{_≡_, refl, sym, ap, ap₂, _∙_}
 use mathlib.Core.List.{List, [], _∷_, _++_, map}
+use mathlib.Core.Bool.{true}
+use mathlib.Core.Logic.{_⊎_, inl, inr, ⊎-elim, _↔_}
 use native.Mathlib.Nat.{add-zero}
 use native.Mathlib.Omega.{arith}
 use lib.Dec.{lit≤}
 use lib.ListN.{length}
 use Rattle.address.specs.Bits.{Bit, O, I, lastBit, bitsIn, bits, digit, numberFrom, number}
-use Rattle.address.specs.Steps.{Step, lastStep, cut, stepsOf, steps, lastOf, stepBits, spelled, addressOf}
-use Rattle.address.specs.Address.{bitLength, depth, above, parent}
+use Rattle.address.specs.declared.Kind.the-variants.{Router, Host}
+use Rattle.address.specs.Steps.{Step, child, lastStep, cut, stepsOf, steps, lastOf, stepBits, spelled, addressOf}
+use Rattle.address.specs.Address.{bitLength, isHost, depth, above, parent}
 use Rattle.address.specs.Numbers.{IsAddress}
 use Rattle.address.proofs.Numbers.{one-to-one, number-snoc, leadingZeros-bitLength}
-use Rattle.address.proofs.Answers.{parent-small}
+use Rattle.address.proofs.Answers.{hostLast, isHost-steps, parent-small}
 use Rattle.address.proofs.Steps.{exactly-one-cut, depth-range}
 use Rattle.address.proofs.Ancestors.{steps-tail, host-ancestorOrSelf}
 use Rattle.address.proofs.KindLaws.{kinds}
 use Rattle.address.proofs.RefusalLaws.{address-refusals}
 use Rattle.address.proofs.Promises.{one-made, of-promise, of-asks-nothing, new-promise, new-asks-nothing, bit-length-promise, bit-length-asks-nothing, is-host-promise, is-host-asks-nothing, depth-promise, depth-asks-nothing, parent-promise, parent-asks-nothing}
-use Rattle.address.specs.Kinds.{IsHost}
+use Rattle.address.specs.Kinds.{IsRoot, IsRouter, IsHost}
 use Rattle.octets.specs.Octets.{same}
 use Rattle.octets.proofs.Correspondence.{octets-one-to-one, same-exactly}
 use Rattle.octets.proofs.Promises.{put-asks-nothing, get-promise, get-asks-nothing}
+use Rattle.search.specs.Search.{childEnd, firstBits}
 use Rattle.search.proofs.Words.{search-words}
 use Rattle.search.proofs.Promises.{child-end-promise, child-end-asks-nothing, first-bits-promise, first-bits-asks-nothing}
-use Rattle.header.specs.Header.{headerAnswer, header}
+use Rattle.header.specs.Header.{headerAnswer, place, header}
 use Rattle.header.proofs.Size.{fewest-pairs, size-exactly}
+use Rattle.header.proofs.Writing.{length-header}
 use Rattle.header.proofs.Demand2.{header-round-trip}
 use Rattle.header.proofs.RefusalLaws.{header-write-refusals, header-read-refusals}
 use Rattle.header.proofs.WrongWriters.{silent-writer-refuted, refusing-writer-refuted, roomless-writer-refuted, spoiling-writer-refuted}
@@ -36,8 +41,9 @@ use Rattle.ipv6.proofs.WrongWriters.{silent-form-writer-refuted, refusing-form-
 use Rattle.ipv6.proofs.WrongReaders.{surplus-form-reader-refuted}
 use Rattle.ipv6.proofs.Promises.{one-formReading, read-promise as form-read-promise, write-asks-nothing as form-write-asks-nothing, read-asks-nothing as form-read-asks-nothing}
 use Rattle.node.specs.declared.Node.{Node}
-use Rattle.node.specs.Node.{addressIn, fresh}
-use Rattle.node.specs.Refusals.{IsGood}
+use Rattle.node.specs.Node.{addressIn, fresh, count, raised, childOf}
+use Rattle.node.specs.Refusals.{IsGood, inner, outer}
+use Rattle.node.proofs.ChildLaws.{isGood-zero}
 use Rattle.node.proofs.Children.{address-good, isGood-fresh}
 use Rattle.node.proofs.GivenChildren.{gives-children}
 use Rattle.node.proofs.RefusalLaws.{good-records, child-refusals}
@@ -65,6 +71,8 @@ use Rattle.route.proofs.Words.{path-words}
 use Rattle.route.proofs.RefusalLaws.{path-refusals}
 use Rattle.route.proofs.Promises.{path-asks-nothing}
 use Rattle.line.specs.Line.{digitsOf, afterDigits, areAddress, afterSpace, parsed, digitText, addressText, decimal, lines, hopsText, refusedText, pathText, textFor, outputText}
+use Rattle.line.specs.Exactly.{lineOf}
+use Rattle.line.specs.Decimal.{decimalFrom, decimalValue}
 use Rattle.line.proofs.Exact.{exactly-the-line, output-fits}
 use Rattle.line.proofs.RefusalLaws.{line-refusals, answer-refusals}
 use Rattle.line.proofs.DecimalLaws.{decimal-reads-back}
@@ -72,7 +80,8 @@ use Rattle.line.proofs.EdgeLaws.{edge}
 use Rattle.line.proofs.Promises.{answer-asks-nothing}
 use Rattle.known.specs.Known.{table}
 use Rattle.known.proofs.Proved.{known-values}
-use Rattle.tree.specs.Tree.{Request, Tree, InTree, Walk, here, along}
+use Rattle.tree.specs.Tree.{Request, request, Tree, bareRoot, grow, grown, InTree, Walk, here, along}
+use Rattle.tree.proofs.Runs.{grown-snoc, ask-given, ask-refused, ask-nobody}
 use Rattle.tree.specs.Demand3.{Arrives}
 use Rattle.packet.specs.Packet.{packetHop}
 use Rattle.tree.proofs.Growth.{sound-grown}
@@ -84,8 +93,8 @@ use Rattle.pasa.proofs.AddressPromises.{parent-promise as pasa-parent-promise, 
 use Rattle.claims.specs.Addresses.{Addresses, Children}
 use Rattle.claims.specs.Demand1.{ExactlyWhen, NothingBeside, OnlyTheNamed}
 use Rattle.claims.specs.Demand2.{Headers, Forms}
-use Rattle.claims.specs.Demand3.{treeOf, EveryList}
-use Rattle.claims.specs.NextHop.{NextHop}
+use Rattle.claims.specs.Demand3.{treeOf, Growth, EveryList}
+use Rattle.claims.specs.NextHop.{HopAnswers, NextHop}
 use Rattle.claims.specs.Paths.{ThePath, exampleLine, exampleText, refusal11, hopsWord, binary, eachOnALine, TheLine}
 use Rattle.claims.specs.Structs.{Cases, OneAnswer, Fields}
 use Rattle.claims.specs.Excluded.{KnownRows, WrongNextHops, WrongChildren, WrongWritersAndReaders, HoldOfOurs}
@@ -103,18 +112,30 @@ right-justified : (bs : List Bit) → (number (bs ++ (O ∷ [])) ≡ number bs *
 unfolding digit
 right-justified bs = (number-snoc bs O ∙ add-zero (number bs * 2), number-snoc bs I)
 
+hosts-by-steps : (a : ℕ) → IsAddress a → (isHost a ≡ true) ↔ ((i : ℕ) × (up : List Step) × (steps a ≡ child Host i ∷ up))
+hosts-by-steps a b = (λ e. last (steps a) refl (sym (isHost-steps b) ∙ e), λ h. isHost-steps b ∙ ap hostLast (h .2))
+  where
+    last : (ss : List Step) → steps a ≡ ss → hostLast ss ≡ true → (i : ℕ) × (up : List Step) × (steps a ≡ child Host i ∷ up)
+    last [] e h = let z : _≡_ {A = ℕ} 0 1 = cc in absurd (omega arith)
+    last (child Router i ∷ up) e h = let z : _≡_ {A = ℕ} 0 1 = cc in absurd (omega arith)
+    last (child Host i ∷ up) e h = (i, up, e)
+
 pub addresses : Addresses
-unfolding depth bitLength bits bitsIn lastBit steps stepsOf
+unfolding depth bitLength bits bitsIn lastBit steps stepsOf stepBits lastOf spelled childEnd firstBits
 addresses = record {
   stringsHeld = one-to-one .held;
   numbersShown = one-to-one .shown;
   rightJustified = right-justified;
   lengths = λ a h. leadingZeros-bitLength h;
   lengthOfExample = refl;
+  stepOfRouter = λ k. refl;
+  stepOfHost = λ k. refl;
+  spelledOneByOne = λ s up. (refl, refl);
   cut = exactly-one-cut .has;
   cutOneWay = exactly-one-cut .only;
   spelt = exactly-one-cut .back;
   hosts = kinds .tested;
+  hostsBySteps = hosts-by-steps;
   kinds = kinds .some;
   rootIsNoHost = (kinds .rootEnds, kinds .rootNoHost);
   routersAreNeither = λ a r. (kinds .routerNoRoot a r, kinds .routerNoHost a r);
@@ -127,17 +148,33 @@ addresses = record {
   prefixes = search-words .begins;
   prefixBySteps = search-words .bySteps;
   looked = search-words .looked;
+  searched = λ n ds. refl;
+  firstOnes = λ n a. refl;
 }
 
+good-cases : (n : Node) → IsGood n → (
+    ((IsRoot (n .address .number) ⊎ IsRouter (n .address .number))
+    × (n .routers ≤ 64 - bitLength (n .address .number)) × (n .hosts ≤ 64 - bitLength (n .address .number)))
+    ⊎ (IsHost (n .address .number) × (n .routers ≡ 0) × (n .hosts ≡ 0))
+    )
+good-cases n (inner k r h) = inl (k, r, h)
+good-cases n (outer k r h) = inr (k, r, h)
+
 pub children : Children
-unfolding fresh
+unfolding fresh count raised
 children = record {
   goodRecords = good-records;
+  goodWritten = λ n. (good-cases n, λ h. ⊎-elim (λ i. inner (i .0) (i .1) (i .2)) (λ o. outer (o .0) (o .1) (o .2)) h);
+  ownAddress = λ n. refl;
+  ownCount = λ n. (refl, refl);
+  raisedRouters = λ n. refl;
+  raisedHosts = λ n. refl;
   raisesOne = child-refusals .without;
   spellsChild = λ n kind h e. gives-children .isChild n kind h e .spells;
   oneStepMore = λ n kind h e. let given = gives-children .isChild n kind h e in (given .address, given .cut, given .parentOf, given .deeper);
-  startsFresh = λ a. (refl, refl, refl);
+  startsFresh = λ a. refl;
   freshIsGood = λ a h. isGood-fresh h;
+  freshOfZero = isGood-zero (fresh 0) refl;
   keepsGood = gives-children .keepsGood;
   keepsAddress = gives-children .keepsAddress;
 }
@@ -151,9 +188,12 @@ host-rule n d good f b host other =
     let a = address-good n (good-records n .1 good) f in
     by-steps n d good f b .elsewhere (λ w. other (sym (host-ancestorOrSelf a b (kinds .tested (addressIn n) .1 host) w)))
 
+pub hop-answers : HopAnswers
+hop-answers = record { delivered = λ c. refl; up = λ x. refl; down = λ x. refl; refused = λ k. refl }
+
 pub next-hop : NextHop
 next-hop = record {
-  deliver = λ n d good f b. by-steps n d good f b .same;
+  same = λ n d good f b. by-steps n d good f b .same;
   host = host-rule;
   elsewhere = λ n d good f b. by-steps n d good f b .elsewhere;
   given = λ n d good f b. by-steps n d good f b .below;
@@ -198,6 +238,7 @@ nothing-beside = record {
 
 pub only-the-named : OnlyTheNamed
 only-the-named = record {
+  anAddress = address-refusals .without;
   aHeader = header-write-refusals .without;
   aForm = form-write-refusals .without;
   aPath = λ a d words e. path-refusals .without a d words e .1;
@@ -207,6 +248,7 @@ only-the-named = record {
 -- ---- demand 2
 
 pub headers : Headers
+unfolding place
 headers = record {
   written = λ a buffer h room. header-round-trip .readsBack a buffer h room .0;
   readsBack = λ a buffer payload n h done. header-round-trip .whereDone a buffer payload n h done .0;
@@ -214,6 +256,7 @@ headers = record {
   acceptsAddresses = λ p a k are e. let so = header-round-trip .writtenSo p a k are e in (so .0, so .1);
   acceptsTheWritten = λ p a k are e. header-round-trip .writtenSo p a k are e .2;
   acceptsSo = header-read-refusals .without;
+  takes = λ a. (refl, length-header a);
   allowedSize = λ a h. fewest-pairs a h .allowed;
   holds = λ a h. fewest-pairs a h .holds;
   fewest = λ a s h. fewest-pairs a h .fewest s;
@@ -249,6 +292,15 @@ walk-some (along l walk) = omega arith
 no-shorter : (v w : List ℕ) → hops v ≤ hops w → 0 < length w → length v ≤ length w
 unfolding hops
 no-shorter v w h l = omega arith
+
+pub growth : Growth
+unfolding grown grow bareRoot
+growth = record {
+  bareRoot = refl;
+  given = λ rs a n kind e z. grown-snoc childOf rs (request a kind) ∙ ask-given childOf (treeOf rs) a kind n e z;
+  refused = λ rs a n kind e z. grown-snoc childOf rs (request a kind) ∙ ask-refused childOf (treeOf rs) a kind n e z;
+  nobody = λ rs a kind e. grown-snoc childOf rs (request a kind) ∙ ask-nobody childOf (treeOf rs) a kind e;
+}
 
 pub every-list : EveryList
 every-list = record {
@@ -301,13 +353,31 @@ unfolding lines eachOnALine addressText
 spelt-lines [] = refl
 spelt-lines (a ∷ p) = ap₂ (λ (l m : List ℕ). l ++ (10 ∷ []) ++ m) (spelt-bits (bits a)) (spelt-lines p)
 
-spelt-path : (p : List ℕ) → pathText p ≡ hopsWord ++ decimal (hops p) ++ (10 ∷ []) ++ eachOnALine p
-unfolding pathText hopsText hopsWord
+spelt-path : (p : List ℕ) → pathText p ≡ hopsWord ++ decimal (length p - 1) ++ (10 ∷ []) ++ eachOnALine p
+unfolding pathText hopsText hopsWord hops
 spelt-path p = ap (λ (l : List ℕ). hopsText ++ decimal (hops p) ++ (10 ∷ []) ++ l) (spelt-lines p)
 
+spelt-line : (a d : ℕ) → lineOf a d ≡ map binary (bits a) ++ (32 ∷ []) ++ map binary (bits d) ++ (10 ∷ [])
+unfolding lineOf addressText
+spelt-line a d = ap₂ (λ (l m : List ℕ). l ++ (32 ∷ []) ++ m ++ (10 ∷ [])) (spelt-bits (bits a)) (spelt-bits (bits d))
+
+few-hops : (a d : ℕ) → IsAddress a → IsAddress d → length (path a d) - 1 < 1000
+unfolding hops
+few-hops = decimal-reads-back .hopsBelow
+
+decimal-snoc : (n : ℕ) (os : List ℕ) (o : ℕ) → decimalFrom n (os ++ (o ∷ [])) ≡ decimalFrom n os * 10 + (o - 48)
+unfolding decimalFrom
+decimal-snoc n [] o = refl
+decimal-snoc n (x ∷ os) o = decimal-snoc (n * 10 + (x - 48)) os o
+
 pub the-line : TheLine
-unfolding computed exampleLine exampleText refusal11
+unfolding decimalValue decimalFrom computed exampleLine exampleText refusal11
 the-line = record {
+  line = spelt-line;
+  isLine = λ input. (
+    λ l. (l .first, l .second, (l .addresses .0, l .addresses .1, l .spelled)),
+    λ h. record { first = h .0; second = h .1; addresses = (h .2 .0, h .2 .1); spelled = h .2 .2 },
+  );
   answers = line-refusals .without;
   reads = exactly-the-line .only;
   refuses = line-refusals .given;
@@ -316,11 +386,13 @@ the-line = record {
   refusedElse = refl;
   spelt = spelt-path;
   apart = line-refusals .apart;
-  longest = edge .full;
+  longestLine = edge .full;
   pastTheLongest = edge .past;
   windowDecides = edge .enough;
-  fewHops = decimal-reads-back .hopsBelow;
+  fewHops = few-hops;
   digitsSay = decimal-reads-back .value;
+  digitsRead = λ os o. (refl, decimal-snoc 0 os o);
+  someDigit = decimal-reads-back .some;
   areDigits = decimal-reads-back .digits;
   unpadded = decimal-reads-back .unpadded;
   fits = output-fits;

@@ -1,10 +1,10 @@
 -- "What an address is" and "A node and its children".
-use Prim.Native.Nat.{ℕ, _+_, _*_, _^_, _<_, _≤_}
+use Prim.Native.Nat.{ℕ, _+_, _*_, _-_, _^_, _<_, _≤_}
 use mathlib.Core.Path.{_≡_}
-use mathlib.Core.Bool.{true}
+use mathlib.Core.Bool.{true, false}
 use mathlib.Core.Logic.{_⊎_, _↔_}
 use mathlib.Core.List.{List, [], _∷_, _++_}
-use lib.ListN.{length}
+use lib.ListN.{length, take, drop, replicate}
 use lib.Count.{leadingZeros}
 use Rattle.address.specs.Bits.{Bit, O, I, bits, number, root}
 use Rattle.address.specs.Steps.{Step, child, steps, stepBits, spelled, addressOf}
@@ -14,7 +14,8 @@ use Rattle.address.specs.Cuts.{AreSteps}
 use Rattle.address.specs.Ancestors.{AncestorOrSelf}
 use Rattle.address.specs.Kinds.{EndsIn, IsRoot, IsRouter, IsHost}
 use Rattle.address.specs.declared.Kind.{Kind}
-use Rattle.search.specs.Search.{sameBit, isPrefix}
+use Rattle.address.specs.declared.Kind.the-variants.{Router, Host}
+use Rattle.search.specs.Search.{lookedAt, childEnd, firstBits, sameBit, isPrefix}
 use Rattle.search.specs.Exactly.{Stops}
 use Rattle.node.specs.Node.{addressIn, count, raised, isGood, fresh, childOf}
 use Rattle.node.specs.Refusals.{IsGood}
@@ -30,12 +31,18 @@ pub record Addresses : Type 0 where
   -- "Its length is 64 less the count of leading zeros". "The example there, 'Len(0x00010010) = 5', means the binary digits 00010010."
   pub lengths : (a : ℕ) → a < 2 ^ 64 → leadingZeros 64 a + bitLength a ≡ 64
   pub lengthOfExample : bitLength 0b00010010 ≡ 5
+  -- "a run of k ones and then a 0 is 'router child k'. If ones remain at the end, m of them (m at least 1) are 'host child m-1'.": the bits of a
+  -- step, and of steps one behind the other
+  pub stepOfRouter : (k : ℕ) → stepBits (child Router k) ≡ replicate k I ++ (O ∷ [])
+  pub stepOfHost : (k : ℕ) → stepBits (child Host k) ≡ replicate k I ++ (I ∷ [])
+  pub spelledOneByOne : (s : Step) (up : List Step) → (spelled [] ≡ I ∷ []) × (spelled (s ∷ up) ≡ spelled up ++ stepBits s)
   -- "After the first 1, the string is cut into steps .. Every address has exactly one such reading."
   pub cut : (a : ℕ) → IsAddress a → AreSteps (steps a) × (spelled (steps a) ≡ bits a)
   pub cutOneWay : (a : ℕ) (ss : List Step) → IsAddress a → AreSteps ss → spelled ss ≡ bits a → ss ≡ steps a
   pub spelt : (ss : List Step) → AreSteps ss → length (spelled ss) ≤ 64 → IsAddress (addressOf ss) × (steps (addressOf ss) ≡ ss)
   -- "The root is 1. A router ends in 0. A host ends in 1 and is longer than one bit. The root ends in 1 and is no host."
   pub hosts : (a : ℕ) → (isHost a ≡ true) ↔ IsHost a
+  pub hostsBySteps : (a : ℕ) → IsAddress a → (isHost a ≡ true) ↔ ((i : ℕ) × (up : List Step) × (steps a ≡ child Host i ∷ up))
   pub kinds : (a : ℕ) → 0 < a → IsRoot a ⊎ IsRouter a ⊎ IsHost a
   pub rootIsNoHost : EndsIn I 1 × (IsHost 1 → ⊥)
   pub routersAreNeither : (a : ℕ) → IsRouter a → (IsRoot a → ⊥) × (IsHost a → ⊥)
@@ -55,10 +62,22 @@ pub record Addresses : Type 0 where
       → (isPrefix (bits c) (bits d) ≡ true) ↔ AncestorOrSelf (steps c) (steps d)
   -- "stop at the first 0 or at D's last bit"
   pub looked : (bs : List Bit) → Stops bs
+  pub searched : (n : ℕ) (ds : List Bit) → childEnd n ds ≡ n + length (lookedAt (drop n ds))
+  pub firstOnes : (n a : ℕ) → firstBits n a ≡ number (take n (bits a))
 
 pub record Children : Type 0 where
   -- "For the root or a router of n bits each count is 0 to 64-n. For a host both are 0. Any other record is bad."
   pub goodRecords : (n : Node) → (isGood n ≡ true) ↔ IsGood n
+  pub goodWritten : (n : Node) → IsGood n ↔ (
+      ((IsRoot (n .address .number) ⊎ IsRouter (n .address .number))
+      × (n .routers ≤ 64 - bitLength (n .address .number)) × (n .hosts ≤ 64 - bitLength (n .address .number)))
+      ⊎ (IsHost (n .address .number) × (n .routers ≡ 0) × (n .hosts ≡ 0))
+      )
+  -- "A node record is its address with two counts: router children and host children given so far.": each kind has its own
+  pub ownAddress : (n : Node) → addressIn n ≡ n .address .number
+  pub ownCount : (n : Node) → (count Router n ≡ n .routers) × (count Host n ≡ n .hosts)
+  pub raisedRouters : (n : Node) → raised Router n ≡ record { address = n .address; routers = n .routers + 1; hosts = n .hosts }
+  pub raisedHosts : (n : Node) → raised Host n ≡ record { address = n .address; routers = n .routers; hosts = n .hosts + 1 }
   -- "Asked for a child, the node hands itself back with one count raised"
   pub raisesOne : (n : Node) (kind : Kind) → childOf n kind .refusal ≡ 0 → childOf n kind .node ≡ raised kind n
   -- "and the child's address: own address, then as many ones as the old count of that kind, then 0 for a router or 1 for a host"
@@ -70,9 +89,10 @@ pub record Children : Type 0 where
       × (steps (childOf n kind .child .number) ≡ child kind (count kind n) ∷ steps (addressIn n))
       × (parent (childOf n kind .child .number) ≡ addressIn n)
       × (depth (childOf n kind .child .number) ≡ depth (addressIn n) + 1)
-  -- "The child's own record starts with both counts 0.", and is good
-  pub startsFresh : (a : ℕ) → (fresh a .routers ≡ 0) × (fresh a .hosts ≡ 0) × (addressIn (fresh a) ≡ a)
+  -- "The child's own record starts with both counts 0.", and is good; of zero, of which the document is silent, it is bad
+  pub startsFresh : (a : ℕ) → fresh a ≡ record { address = record { number = a }; routers = 0; hosts = 0 }
   pub freshIsGood : (a : ℕ) → IsAddress a → isGood (fresh a) ≡ true
+  pub freshOfZero : isGood (fresh 0) ≡ false
   -- a request keeps the record good, refused or not, and its address
   pub keepsGood : (n : Node) (kind : Kind) → isGood n ≡ true → isGood (childOf n kind .node) ≡ true
   pub keepsAddress : (n : Node) (kind : Kind) → addressIn (childOf n kind .node) ≡ addressIn n

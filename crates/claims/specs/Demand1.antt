@@ -1,54 +1,104 @@
 -- Demand 1: "A refusal carries its number from document 01, is given exactly when that document says, leaves the node's record as it came and
 -- writes nothing into a lent buffer." An order has the document's conditions in the document's order, each with its number; `GivenExactly` says
 -- of every number that the refusal is this number exactly if its condition holds and none before it does.
-use Prim.Native.Nat.{ℕ, _^_, _<_}
+use Prim.Native.Nat.{ℕ, _+_, _-_, _^_, _<_, _≤_}
 use mathlib.Core.Path.{_≡_}
+use mathlib.Core.Logic.{_⊎_}
 use mathlib.Core.List.{List, _++_}
-use lib.ListN.{length, drop}
-use Rattle.address.specs.Order.{GivenExactly}
-use Rattle.address.specs.Address.{made}
-use Rattle.address.specs.Refusals.{addressOrder}
+use lib.ListN.{length, take, drop, getD, replicate}
+use Rattle.address.specs.Order.{done, _when_otherwise_, _then_, GivenExactly}
+use Rattle.address.specs.Address.{made, bitLength}
+use Rattle.address.specs.Kinds.{IsHost}
 use Rattle.address.specs.declared.Kind.{Kind}
 use Rattle.octets.specs.Octets.{AreOctets}
-use Rattle.header.specs.Header.{header, writing, reading}
-use Rattle.header.specs.Refusals.{writingOrder, readingOrder}
+use Rattle.header.specs.Header.{IsSize, header, writing, reading}
+use Rattle.header.specs.Refusals.{readingOrder}
 use Rattle.ipv6.specs.Form.{form, formWriting, formReading}
-use Rattle.ipv6.specs.Refusals.{formWritingOrder, formReadingOrder}
-use Rattle.node.specs.Node.{addressIn, childOf}
-use Rattle.node.specs.Refusals.{childOrder}
+use Rattle.node.specs.Node.{addressIn, count, childOf}
+use Rattle.node.specs.Refusals.{IsBad}
 use Rattle.node.specs.declared.Node.{Node}
 use Rattle.forward.specs.Forward.{stop, nextHop}
-use Rattle.forward.specs.Refusals.{hopOrder}
+use Rattle.forward.specs.Refusals.{ChildNotGiven}
 use Rattle.packet.specs.Packet.{packetHop}
-use Rattle.packet.specs.Refusals.{packetOrder}
 use Rattle.route.specs.Path.{path, listing}
-use Rattle.route.specs.Refusals.{pathOrder}
 use Rattle.line.specs.Line.{outputText, answering}
-use Rattle.line.specs.Refusals.{answerOrder}
 
 -- "is given exactly when that document says"
 pub record ExactlyWhen : Type 0 where
-  -- 9: "an address is zero"
-  pub anAddress : (number : ℕ) → GivenExactly (addressOrder number) (made number .refusal)
-  -- "for a child 1, 2, 3"
-  pub aChild : (n : Node) (kind : Kind) → GivenExactly (childOrder n kind) (childOf n kind .refusal)
-  -- "For a next hop from an address 1, 9, 7", of 64-bit numbers
-  pub aNextHop : (n : Node) (d : ℕ) → addressIn n < 2 ^ 64 → d < 2 ^ 64 → GivenExactly (hopOrder n d) (nextHop n d .refusal)
+  -- "an address is zero"
+  pub anAddress : (number : ℕ) → GivenExactly (9 when number ≡ 0 otherwise done) (made number .refusal)
+  -- "for a child 1, 2, 3": "the node record is bad"; "a host is asked for a child"; "the child would be longer than 64 bits"
+  pub aChild : (n : Node) (kind : Kind)
+      → GivenExactly (
+      1 when IsBad n
+      otherwise 2 when IsHost (addressIn n)
+      otherwise 3 when 64 < bitLength (addressIn n) + count kind n + 1
+      otherwise done
+      ) (childOf n kind .refusal)
+  -- "For a next hop from an address 1, 9, 7", of 64-bit numbers: "destination below this node, child not given"
+  pub aNextHop : (n : Node) (d : ℕ) → addressIn n < 2 ^ 64 → d < 2 ^ 64
+      → GivenExactly (
+      1 when IsBad n
+      otherwise 9 when d ≡ 0
+      otherwise 7 when ChildNotGiven n d
+      otherwise done
+      ) (nextHop n d .refusal)
   -- "from a packet 1, then the reading order, then 7"
-  pub aPacket : (n : Node) (p : List ℕ) → addressIn n < 2 ^ 64 → AreOctets p → GivenExactly (packetOrder n p) (packetHop n p .refusal)
-  -- "For writing a header 9, 10."
-  pub aHeaderOut : (a : ℕ) (buffer : List ℕ) → GivenExactly (writingOrder a buffer) (writing a buffer .answer .refusal)
-  -- "Reading: the first three octets are checked in order .."
-  pub aHeaderBack : (p : List ℕ) → GivenExactly (readingOrder p) (reading p .refusal)
-  -- "For IPv6 out 12, 9, 10."
+  pub aPacket : (n : Node) (p : List ℕ) → addressIn n < 2 ^ 64 → AreOctets p
+      → GivenExactly (
+      (1 when IsBad n otherwise done)
+      then readingOrder p
+      then (7 when ChildNotGiven n (reading p .address) otherwise done)
+      ) (packetHop n p .refusal)
+  -- "For writing a header 9, 10.": "lent output too short"
+  pub aHeaderOut : (a : ℕ) (buffer : List ℕ)
+      → GivenExactly (
+      9 when a ≡ 0
+      otherwise 10 when length buffer < length (header a)
+      otherwise done
+      ) (writing a buffer .answer .refusal)
+  -- "Reading: the first three octets are checked in order; one that is absent is 4, one that is wrong is 5 (of the second only its top three
+  -- bits). Then a size other than 2, 4, 6 or 8 octets is 6. Then a missing address octet is 4. Then, with 2 octets, address zero is 9; with more,
+  -- a first pair of zeros is 6.", where the second octet is 128, 100sssss, and the size less one
+  pub aHeaderBack : (p : List ℕ)
+      → GivenExactly (
+      4 when length p ≤ 0
+      otherwise 5 when (getD p 0 0 ≡ 0xF1 → ⊥)
+      otherwise 4 when length p ≤ 1
+      otherwise 5 when ((getD p 1 0 < 128) ⊎ (160 ≤ getD p 1 0))
+      otherwise 4 when length p ≤ 2
+      otherwise 5 when (getD p 2 0 ≡ 15 → ⊥)
+      otherwise 6 when (IsSize (getD p 1 0 - 128 + 1) → ⊥)
+      otherwise 4 when length p < 3 + (getD p 1 0 - 128 + 1)
+      otherwise 9 when ((getD p 1 0 - 128 + 1 ≡ 2) × (take 2 (drop 3 p) ≡ replicate 2 0))
+      otherwise 6 when ((2 < getD p 1 0 - 128 + 1) × (take 2 (drop 3 p) ≡ replicate 2 0))
+      otherwise done
+      ) (reading p .refusal)
+  -- "For IPv6 out 12, 9, 10.": "a prefix isn't 8" octets
   pub aFormOut : (prefix : List ℕ) (a : ℕ) (buffer : List ℕ)
-      → GivenExactly (formWritingOrder prefix a buffer) (formWriting prefix a buffer .answer .refusal)
-  -- "For IPv6 back 12, 8, 9."
-  pub aFormBack : (prefix ipv6 : List ℕ) → GivenExactly (formReadingOrder prefix ipv6) (formReading prefix ipv6 .refusal)
+      → GivenExactly (
+      12 when (length prefix ≡ 8 → ⊥)
+      otherwise 9 when a ≡ 0
+      otherwise 10 when length buffer < 16
+      otherwise done
+      ) (formWriting prefix a buffer .answer .refusal)
+  -- "For IPv6 back 12, 8, 9.": "an IPv6 address isn't 16 octets, or a prefix isn't 8"; "IPv6 prefix differs"; "an address is zero"
+  pub aFormBack : (prefix ipv6 : List ℕ)
+      → GivenExactly (
+      12 when ((length ipv6 ≡ 16 → ⊥) ⊎ (length prefix ≡ 8 → ⊥))
+      otherwise 8 when (take 8 ipv6 ≡ prefix → ⊥)
+      otherwise 9 when drop 8 ipv6 ≡ replicate 8 0
+      otherwise done
+      ) (formReading prefix ipv6 .refusal)
   -- "For a path 9, 10."
-  pub aPath : (a d : ℕ) (words : List ℕ) → GivenExactly (pathOrder a d words) (listing a d words .answer .refusal)
+  pub aPath : (a d : ℕ) (words : List ℕ)
+      → GivenExactly (
+      9 when (a ≡ 0) ⊎ (d ≡ 0)
+      otherwise 10 when length words < length (path a d)
+      otherwise done
+      ) (listing a d words .answer .refusal)
   -- the path program's work: 10 where the lent output is too short; 11 is no number here but its text (Paths)
-  pub aLine : (input out : List ℕ) → GivenExactly (answerOrder input out) (answering input out .answer .refusal)
+  pub aLine : (input out : List ℕ) → GivenExactly (10 when length out < length (outputText input) otherwise done) (answering input out .answer .refusal)
 
 -- "With any refusal the address, place, hop count and every other number returned beside its own are 0, a returned record is the one handed in,
 -- and no byte or word lent is changed."
@@ -65,10 +115,13 @@ pub record NothingBeside : Type 0 where
   pub aFormBack : (prefix ipv6 : List ℕ) → (formReading prefix ipv6 .refusal ≡ 0 → ⊥) → formReading prefix ipv6 .address ≡ 0
   pub aPath : (a d : ℕ) (words : List ℕ) → (listing a d words .answer .refusal ≡ 0 → ⊥)
       → (listing a d words .answer .hops ≡ 0) × (listing a d words .words ≡ words)
-  pub aLine : (input out : List ℕ) → (answering input out .answer .refusal ≡ 0 → ⊥) → (answering input out .answer .count ≡ 0) × (answering input out .buffer ≡ out)
+  pub aLine : (input out : List ℕ) → (answering input out .answer .refusal ≡ 0 → ⊥)
+      → (answering input out .answer .count ≡ 0) × (answering input out .buffer ≡ out)
 
 -- "On success only the words or octets named are written.": they stand in front, what is lent goes on behind them as it was
 pub record OnlyTheNamed : Type 0 where
+  -- making an address answers the number itself
+  pub anAddress : (number : ℕ) → made number .refusal ≡ 0 → made number .address ≡ number
   pub aHeader : (a : ℕ) (buffer : List ℕ) → writing a buffer .answer .refusal ≡ 0
       → (writing a buffer .answer .count ≡ length (header a)) × (writing a buffer .buffer ≡ header a ++ drop (length (header a)) buffer)
   pub aForm : (prefix : List ℕ) (a : ℕ) (buffer : List ℕ) → formWriting prefix a buffer .answer .refusal ≡ 0
@@ -77,4 +130,5 @@ pub record OnlyTheNamed : Type 0 where
   pub aPath : (a d : ℕ) (words : List ℕ) → listing a d words .answer .refusal ≡ 0
       → listing a d words .words ≡ path a d ++ drop (length (path a d)) words
   pub aLine : (input out : List ℕ) → answering input out .answer .refusal ≡ 0
-      → (answering input out .answer .count ≡ length (outputText input)) × (answering input out .buffer ≡ outputText input ++ drop (length (outputText input)) out)
+      → (answering input out .answer .count ≡ length (outputText input))
+      × (answering input out .buffer ≡ outputText input ++ drop (length (outputText input)) out)

@@ -9,7 +9,7 @@ use lib.ListN.{length, take, drop}
 use Rattle.address.specs.Numbers.{IsAddress}
 use Rattle.address.specs.Address.{validAddress}
 use Rattle.octets.specs.Octets.{AreOctets, octets, value, same, wrote}
-use Rattle.header.specs.Header.{IsSize, size, sizeAllowed, place, writing, reading, found}
+use Rattle.header.specs.Header.{IsSize, size, sizeAllowed, place, header, writing, reading, found}
 use Rattle.header.specs.Refusals.{AcceptedHeader}
 use Rattle.ipv6.specs.Form.{formWriting, formReading}
 use Rattle.ipv6.specs.Refusals.{AcceptedForm}
@@ -31,6 +31,7 @@ pub record Headers : Type 0 where
   -- significant octet first; the payload": whatever is accepted is laid out so, and the place is behind the address
   pub acceptsSo : (p : List ℕ) → reading p .refusal ≡ 0 → AcceptedHeader p (reading p .address) (reading p .place)
   -- "The address takes the fewest pairs of octets that hold it: 2, 4, 6 or 8 octets"
+  pub takes : (a : ℕ) → (place a ≡ 3 + size a) × (length (header a) ≡ 3 + size a)
   pub allowedSize : (a : ℕ) → IsAddress a → IsSize (size a)
   pub holds : (a : ℕ) → IsAddress a → a < 256 ^ size a
   pub fewest : (a s : ℕ) → IsAddress a → IsSize s → a < 256 ^ s → size a ≤ s
@@ -59,4 +60,5 @@ pub record Forms : Type 0 where
   pub acceptsAddresses : (prefix ipv6 : List ℕ) (a : ℕ) → AreOctets ipv6 → formReading prefix ipv6 ≡ validAddress a
       → IsAddress a × (length prefix ≡ 8) × (length ipv6 ≡ 16)
   pub acceptsTheWritten : (prefix ipv6 : List ℕ) (a : ℕ) → AreOctets ipv6 → formReading prefix ipv6 ≡ validAddress a
-      → (buffer : List ℕ) → 16 ≤ length buffer → (formWriting prefix a buffer .answer ≡ wrote 16) × (take 16 (formWriting prefix a buffer .buffer) ≡ ipv6)
+      → (buffer : List ℕ) → 16 ≤ length buffer
+      → (formWriting prefix a buffer .answer ≡ wrote 16) × (take 16 (formWriting prefix a buffer .buffer) ≡ ipv6)

@@ -2,17 +2,19 @@
 -- record it was last given back, none removed." `rs` is such a list, and `treeOf rs` the tree after it, with the records as they then stand.
 use Prim.Native.Nat.{ℕ, _≤_}
 use mathlib.Core.Path.{_≡_}
-use mathlib.Core.List.{List, _∷_, _++_}
+use mathlib.Core.List.{List, [], _∷_, _++_}
 use lib.ListN.{length}
 use Rattle.address.specs.Bits.{root}
 use Rattle.address.specs.Address.{depth}
 use Rattle.address.specs.Numbers.{IsAddress}
 use Rattle.octets.specs.Octets.{AreOctets}
 use Rattle.header.specs.Header.{header}
-use Rattle.node.specs.Node.{childOf}
+use Rattle.address.specs.declared.Kind.{Kind}
+use Rattle.node.specs.declared.Node.{Node}
+use Rattle.node.specs.Node.{fresh, childOf}
 use Rattle.packet.specs.Packet.{packetHop}
 use Rattle.route.specs.Path.{path}
-use Rattle.tree.specs.Tree.{Request, Tree, grown, givenIn, addresses, InTree, AllDiffer, Walk}
+use Rattle.tree.specs.Tree.{Request, request, Tree, standing, absent, recordOf, replaced, grown, givenIn, addresses, InTree, AllDiffer, Walk}
 use Rattle.tree.specs.Way.{IsPacket, TheWay, deliveredAt, stoppedAt}
 use Rattle.tree.specs.Demand3.{IsAncestor}
 
@@ -27,6 +29,18 @@ pub record StopsAtDeepest (rs : List Request) (p : List ℕ) (a d x : ℕ) : Typ
   pub deepest : (y : ℕ) → IsAncestor y d → InTree y (treeOf rs) → depth y ≤ depth x
   -- "The nodes it meets are, in order, the path from its start to there."
   pub theWay : TheWay packetHop (treeOf rs) p a (path a x) (stoppedAt 7 x)
+
+-- "A list of requests begins with the root alone, its counts 0,0." "Each is made with the record of the node it names: the one that node started
+-- with, or the one that the last request to that node handed back, refused or not." "a refused one gives no address"
+pub record Growth : Type 0 where
+  pub bareRoot : treeOf [] ≡ fresh 1 ∷ []
+  -- one request more, to a node that stands in the tree: what it hands back takes the place of its record
+  pub given : (rs : List Request) (a : ℕ) (n : Node) (kind : Kind) → recordOf a (treeOf rs) ≡ standing n → childOf n kind .refusal ≡ 0
+      → treeOf (rs ++ (request a kind ∷ [])) ≡ replaced a (childOf n kind .node) (treeOf rs) ++ (fresh (childOf n kind .child .number) ∷ [])
+  pub refused : (rs : List Request) (a : ℕ) (n : Node) (kind : Kind) → recordOf a (treeOf rs) ≡ standing n → (childOf n kind .refusal ≡ 0 → ⊥)
+      → treeOf (rs ++ (request a kind ∷ [])) ≡ replaced a (childOf n kind .node) (treeOf rs)
+  -- to anybody else: nothing
+  pub nobody : (rs : List Request) (a : ℕ) (kind : Kind) → recordOf a (treeOf rs) ≡ absent → treeOf (rs ++ (request a kind ∷ [])) ≡ treeOf rs
 
 pub record EveryList : Type 0 where
   -- "The tree after a list is the root and every address given in it without a refusal."

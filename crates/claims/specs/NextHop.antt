@@ -12,15 +12,22 @@ use Rattle.header.specs.Header.{reading}
 use Rattle.node.specs.Node.{addressIn, count}
 use Rattle.node.specs.Refusals.{IsGood}
 use Rattle.node.specs.declared.Node.{Node}
-use Rattle.forward.specs.Forward.{stop, deliverAt, upTo, downTo, refusedHop, nextHop}
+use Rattle.forward.specs.Forward.{deliver, toParent, toChild, stop, deliverAt, upTo, downTo, refusedHop, nextHop}
 use Rattle.packet.specs.Packet.{packetHop}
 use Rattle.batch.specs.Batch.{nextHops}
 use Rattle.batch.specs.Exactly.{IsBatch}
 
+-- what the answers say, number by number
+pub record HopAnswers : Type 0 where
+  pub delivered : (c : ℕ) → deliverAt c ≡ record { refusal = 0; action = deliver; named = c }
+  pub up : (x : ℕ) → upTo x ≡ record { refusal = 0; action = toParent; named = x }
+  pub down : (x : ℕ) → downTo x ≡ record { refusal = 0; action = toChild; named = x }
+  pub refused : (k : ℕ) → refusedHop k ≡ record { refusal = k; action = stop; named = 0 }
+
 -- "With a good record of address C and a destination D"
 pub record NextHop : Type 0 where
   -- "1. D equals C: deliver."; "on delivery C itself"
-  pub deliver : (n : Node) (d : ℕ) → IsGood n → addressIn n < 2 ^ 64 → IsAddress d → d ≡ addressIn n → nextHop n d ≡ deliverAt (addressIn n)
+  pub same : (n : Node) (d : ℕ) → IsGood n → addressIn n < 2 ^ 64 → IsAddress d → d ≡ addressIn n → nextHop n d ≡ deliverAt (addressIn n)
   -- "2. C is a host: pass to the parent."
   pub host : (n : Node) (d : ℕ) → IsGood n → addressIn n < 2 ^ 64 → IsAddress d → IsHost (addressIn n) → (d ≡ addressIn n → ⊥)
       → nextHop n d ≡ upTo (parent (addressIn n))

@@ -1,5 +1,5 @@
 -- The path between two addresses, and the path program's line and text.
-use Prim.Native.Nat.{ℕ, _+_, _<_, _≤_}
+use Prim.Native.Nat.{ℕ, _+_, _*_, _-_, _<_, _≤_}
 use mathlib.Core.Path.{_≡_}
 use mathlib.Core.Bool.{true}
 use mathlib.Core.Logic.{_⊎_, _↔_}
@@ -11,7 +11,7 @@ use Rattle.address.specs.Address.{bitLength}
 use Rattle.address.specs.declared.Kind.{Kind}
 use Rattle.address.specs.Numbers.{IsAddress}
 use Rattle.address.specs.Ancestors.{AncestorOrSelf}
-use Rattle.route.specs.Path.{sameKind, sameSteps, isAncestorOrSelf, turn, path, hops, listing}
+use Rattle.route.specs.Path.{sameKind, sameSteps, isAncestorOrSelf, turn, path, listing}
 use Rattle.route.specs.TurningPoint.{IsUpAndDown}
 use Rattle.line.specs.Line.{parsed, between, decimal, refusedText, pathText, outputText}
 use Rattle.line.specs.Exactly.{lineOf, IsLine, room}
@@ -61,6 +61,8 @@ eachOnALine (a ∷ p) = map binary (bits a) ++ (10 ∷ []) ++ eachOnALine p
 
 pub record TheLine : Type 0 where
   -- "It reads one line from standard input: two addresses in binary digits, one space between, a newline, nothing after."
+  pub line : (a d : ℕ) → lineOf a d ≡ map binary (bits a) ++ (32 ∷ []) ++ map binary (bits d) ++ (10 ∷ [])
+  pub isLine : (input : List ℕ) → IsLine input ↔ ((a d : ℕ) × (IsAddress a × IsAddress d × (input ≡ lineOf a d)))
   pub answers : (a d : ℕ) → IsAddress a → IsAddress d → outputText (lineOf a d) ≡ pathText (path a d)
   pub reads : (input : List ℕ) (a d : ℕ) → parsed input ≡ between a d → IsAddress a × IsAddress d × (input ≡ lineOf a d)
   -- "Anything else, a leading zero or a 65th digit included, prints `refused 11` and a newline and no more."
@@ -70,16 +72,19 @@ pub record TheLine : Type 0 where
   pub example : outputText exampleLine ≡ exampleText
   pub refusedElse : outputText [] ≡ refusal11
   -- of every path: the hops, then a line for each address, in binary digits; "with a newline after each line"
-  pub spelt : (p : List ℕ) → pathText p ≡ hopsWord ++ decimal (hops p) ++ (10 ∷ []) ++ eachOnALine p
+  pub spelt : (p : List ℕ) → pathText p ≡ hopsWord ++ decimal (length p - 1) ++ (10 ∷ []) ++ eachOnALine p
   -- a path's text is no refusal's
   pub apart : (p : List ℕ) → pathText p ≡ refusedText → ⊥
   -- two addresses of 64 digits have a line of 130 octets; whatever is longer is refused, and 131 octets of an input decide
-  pub longest : (a d : ℕ) → IsAddress a → IsAddress d → bitLength a ≡ 64 → bitLength d ≡ 64 → IsLine (lineOf a d) × (length (lineOf a d) ≡ 130)
+  pub longestLine : (a d : ℕ) → IsAddress a → IsAddress d → bitLength a ≡ 64 → bitLength d ≡ 64
+      → IsLine (lineOf a d) × (length (lineOf a d) ≡ 130)
   pub pastTheLongest : (input : List ℕ) → 130 < length input → outputText input ≡ refusedText
   pub windowDecides : (input : List ℕ) → outputText (take 131 input) ≡ outputText input
-  -- a hop count, which is below 1000, is written in the usual way: digits, none in front of the others that is 0, and they say the number
-  pub fewHops : (a d : ℕ) → IsAddress a → IsAddress d → hops (path a d) < 1000
+  -- a hop count, which is below 1000, is written in the usual way: at least one digit, none in front of the others that is 0, and they say the number
+  pub fewHops : (a d : ℕ) → IsAddress a → IsAddress d → length (path a d) - 1 < 1000
   pub digitsSay : (n : ℕ) → n < 1000 → decimalValue (decimal n) ≡ n
+  pub digitsRead : (os : List ℕ) (o : ℕ) → (decimalValue [] ≡ 0) × (decimalValue (os ++ (o ∷ [])) ≡ decimalValue os * 10 + (o - 48))
+  pub someDigit : (n : ℕ) → decimal n ≡ [] → ⊥
   pub areDigits : (n : ℕ) → n < 1000 → AreDecimalDigits (decimal n)
   pub unpadded : (n : ℕ) (rest : List ℕ) → decimal n ≡ 48 ∷ rest → (n ≡ 0) × (rest ≡ [])
   -- every text fits the room that the program lends

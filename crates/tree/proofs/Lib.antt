@@ -4,6 +4,7 @@ pub mod Sound
 pub mod Trees
 pub mod Growth
 pub mod Given
+pub mod Runs
 pub mod Paths
 pub mod Walks
 pub mod Ways

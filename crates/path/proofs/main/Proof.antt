@@ -4,7 +4,7 @@ use Prim.Native.Nat.{_≤_}
 use borrow.Author.Needs.{needs}
 use lib.ListN.{length}
 use lib.Seq.{length-take-le}
-use Rattle.line.proofs.Replies.{reply-fits}
+use Rattle.line.proofs.Replies.{answering-fits}
 use Rattle.path.proofs.main.Statement.{statement}
 use Rattle.path.proofs.main.Tie as tie
 
@@ -27,7 +27,7 @@ answer-requires : tie.Need-answer-requires
 answer-requires c κs = search needs
 
 inside : (c : tie.After-answer) → c .answer .result .count ≤ length (c .answer .last .1 .0)
-inside c = rw (c .answer .kept .1 .0, c .answer .ensures .0) (reply-fits _ _)
+inside c = rw (c .answer .kept .1 .0, c .answer .ensures .0) (answering-fits _ _)
 
 array-share-prefix-output : tie.Need-array-share-prefix-output
 array-share-prefix-output c = inside (c .before)
