@@ -10,7 +10,7 @@ use Rattle.address.specs.Choice.{if_then_else_}
 use Rattle.node.specs.declared.Node.{Node}
 use Rattle.plan.specs.Limits.{mostGroups}
 use Rattle.plan.specs.Grammar.{letterR, opening}
-use Rattle.plan.specs.Reading.{Expected, behind, faultAt, readFrom}
+use Rattle.plan.specs.Reading.{Expected, whole, faultAt, behind, readFrom, reading}
 use Rattle.plan.specs.Plan.{missing}
 pub use Rattle.plan.specs.declared.Progress.{Progress}
 
@@ -35,3 +35,11 @@ pub record PartRead (text words after : List ℕ) (from to : Progress) (allowed 
   pub reads : (up : List Node) → length up + 1 + allowed ≡ mostGroups
       → readFrom (from .place) (before up) (drop (from .place) text)
       ≡ (if to .stopped then faultAt (to .place) else behind given (readFrom (to .place) (behindIt up) (drop (to .place) text)))
+
+-- the whole text, read
+pub record HallRead (text words after : List ℕ) (to : Progress) : Type 0 where
+  pub given : List ℕ
+  pub nodes : to .nodes ≡ length given
+  pub missed : to .missing ≡ missing given
+  pub stored : after ≡ sets words 0 given
+  pub reads : reading text ≡ (if to .stopped then faultAt (to .place) else whole given)
