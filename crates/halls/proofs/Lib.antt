@@ -1,0 +1,2 @@
+-- The laws of the halls crate.
+pub mod ExampleLaws
