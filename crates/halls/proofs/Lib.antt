@@ -9,4 +9,6 @@ pub mod TooLong
 pub mod LetterLaws
 pub mod Counts
 pub mod Planned
+pub mod Reading
+pub mod Theorem
 pub mod ExampleLaws
