@@ -4,8 +4,7 @@ use Prim.Native.Nat.{ℕ, suc, _+_}
 use mathlib.Core.Path.{_≡_, refl, sym, ap, ap₂, _∙_}
 use lib.ListN.{length, length-append, length-map}
 use Rattle.address.specs.Bits.{root}
-use Rattle.address.specs.declared.Kind.the-variants.{Router, Host}
-use Rattle.node.specs.Node.{fresh, childOf}
+use Rattle.node.specs.Node.{fresh}
 use Rattle.node.specs.declared.Node.{Node}
 use Rattle.plan.specs.Grammar.{Items, none, host, router, planText}
 use Rattle.plan.specs.Hall.{childIn, answers, hall, items, nodes}
@@ -16,10 +15,9 @@ use Rattle.halls.proofs.LetterLaws.{letters-plan}
 length-answers : (group : Items) (n : Node) → length (answers n group) ≡ items group
 unfolding answers items
 length-answers none n = refl
-length-answers (host behind) n = ap suc (length-answers behind (childOf n Host .node))
+length-answers (host behind) n = ap suc (length-answers behind _)
 length-answers (router group behind) n =
-    ap suc (length-append (answers (fresh (childIn (childOf n Router))) group) (answers (childOf n Router .node) behind)
-    ∙ ap₂ (λ (a b : ℕ). a + b) (length-answers group (fresh (childIn (childOf n Router)))) (length-answers behind (childOf n Router .node)))
+    ap suc (length-append (answers _ group) (answers _ behind) ∙ ap₂ (λ (a b : ℕ). a + b) (length-answers group _) (length-answers behind _))
 
 pub length-hall : (plan : Items) → length (hall plan) ≡ nodes plan
 unfolding hall nodes
@@ -28,10 +26,9 @@ length-hall plan = ap suc (length-map (answers (fresh root) plan) childIn ∙ le
 length-requestsIn : (group : Items) (n : Node) → length (requestsIn n group) ≡ items group
 unfolding requestsIn items
 length-requestsIn none n = refl
-length-requestsIn (host behind) n = ap suc (length-requestsIn behind (childOf n Host .node))
+length-requestsIn (host behind) n = ap suc (length-requestsIn behind _)
 length-requestsIn (router group behind) n =
-    ap suc (length-append (requestsIn (fresh (childIn (childOf n Router))) group) (requestsIn (childOf n Router .node) behind)
-    ∙ ap₂ (λ (a b : ℕ). a + b) (length-requestsIn group (fresh (childIn (childOf n Router)))) (length-requestsIn behind (childOf n Router .node)))
+    ap suc (length-append (requestsIn _ group) (requestsIn _ behind) ∙ ap₂ (λ (a b : ℕ). a + b) (length-requestsIn group _) (length-requestsIn behind _))
 
 pub nodes-letters : (plan : Items) → nodes plan ≡ length (letters (planText plan))
 unfolding nodes requests
