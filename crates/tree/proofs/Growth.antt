@@ -97,7 +97,7 @@ module _ (t : Tree) (s : Sound t) (a : ℕ) (n : Node) (stands : recordOf a t �
   parent-new : parent new ≡ a
   parent-new = parent-child may address-own ∙ own
 
-  is-new : InTree new t → ⊥
+  pub is-new : InTree new t → ⊥
   is-new i = omega (arith, s .counted a new n kind (count kind n) stands i steps-new)
 
   -- the nodes after it
@@ -118,13 +118,16 @@ module _ (t : Tree) (s : Sound t) (a : ℕ) (n : Node) (stands : recordOf a t �
   kept : (b : ℕ) → InTree b t → recordOf b after ≡ recordOf b (replaced a handed t)
   kept b i = recordOf-left (replaced a handed t) (fresh new ∷ []) (rw (addresses-replaced handed same t) i)
 
-  recordOf-asked : recordOf a after ≡ standing handed
+  pub recordOf-asked : recordOf a after ≡ standing handed
   recordOf-asked = kept a asked ∙ recordOf-replaced handed same t asked
 
-  recordOf-new : recordOf new after ≡ standing (fresh new)
+  pub recordOf-new : recordOf new after ≡ standing (fresh new)
   recordOf-new =
       recordOf-right (replaced a handed t) (fresh new ∷ []) (λ i. is-new (rw (addresses-replaced handed same t) at i))
       ∙ recordOf-single (fresh new) (addressIn-fresh new)
+
+  pub recordOf-other : (b : ℕ) → (a ≡ b → ⊥) → InTree b t → recordOf b after ≡ recordOf b t
+  recordOf-other b ne i = kept b i ∙ recordOf-replaced-other handed same ne t
 
   data Stands (b : ℕ) (m : Node) : Type 0 where
     isAsked : b ≡ a → m ≡ handed → Stands b m
@@ -136,7 +139,7 @@ module _ (t : Tree) (s : Sound t) (a : ℕ) (n : Node) (stands : recordOf a t �
     where
       there : InTree b t → Dec (a ≡ b) → Stands b m
       there i (yes q) = isAsked (sym q) (cc recordOf-asked)
-      there i (no ne) = isOther ne (sym (kept b i ∙ recordOf-replaced-other handed same ne t) ∙ e)
+      there i (no ne) = isOther ne (sym (recordOf-other b ne i) ∙ e)
 
   given-after : (b : ℕ) (m : Node) (other : Kind) (j : ℕ) → Stands b m → j < count other m
       → (d : ℕ) × InTree d after × (steps d ≡ child other j ∷ steps b)

@@ -8,7 +8,7 @@ use Rattle.node.specs.Node.{fresh}
 use Rattle.node.specs.declared.Node.{Node}
 use Rattle.tree.specs.Tree.{ChildRule, Request, request, Tree, Record, standing, absent, recordOf, replaced, withChild, answered, askedOf, ask, grow, grown}
 
-grow-append : (rule : ChildRule) (t : Tree) (rs ss : List Request) → grow rule t (rs ++ ss) .tree ≡ grow rule (grow rule t rs .tree) ss .tree
+pub grow-append : (rule : ChildRule) (t : Tree) (rs ss : List Request) → grow rule t (rs ++ ss) .tree ≡ grow rule (grow rule t rs .tree) ss .tree
 unfolding grow
 grow-append rule t [] ss = refl
 grow-append rule t (r ∷ rs) ss = grow-append rule (ask rule t r .tree) rs ss

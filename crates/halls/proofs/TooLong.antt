@@ -1,0 +1,64 @@
+-- An item is answered 3 exactly if its reply is 3 with the address 0: each answer is that of a request, so a refused one has the address 0, and
+-- 3 is not the 1 of a node that nobody asked. Assumes nothing.
+use Prim.Native.Nat.{ℕ}
+use mathlib.Core.Path.{_≡_, sym, ap, _∙_}
+use mathlib.Core.Logic.{_↔_, ⊎-elim}
+use mathlib.Core.List.{_++_, map, List·Memᴰ, List·Memᴰ·not-nil, List·Memᴰ·cases-cons, List·Memᴰ·append-cases, Memᴰ·cast, Memᴰ·map, Memᴰ·of-map}
+use native.Mathlib.Decide.{ℕ-discrete}
+use native.Mathlib.Omega.{arith}
+use borrow.Author.Tests.{eq-eqb, ne-eqb}
+use Rattle.address.specs.declared.Kind.{Kind}
+use Rattle.address.specs.declared.Kind.the-variants.{Router, Host}
+use Rattle.node.specs.Node.{fresh, childOf}
+use Rattle.node.specs.declared.Node.{Node}
+use Rattle.node.specs.declared.Given.{Given}
+use Rattle.node.proofs.RefusalLaws.{child-refusals}
+use Rattle.tree.specs.Tree.{replied, nobody}
+use Rattle.plan.specs.Grammar.{Items, none, host, router}
+use Rattle.plan.specs.Hall.{childIn, answers, refusalOf}
+use Rattle.halls.specs.Halls.{replyOf}
+
+abbrev IsAnswer : Given → Type 0
+IsAnswer g = (m : Node) × (kind : Kind) × (g ≡ childOf m kind)
+
+answer-asked : (group : Items) (n : Node) (g : Given) → List·Memᴰ g (answers n group) → IsAnswer g
+unfolding answers
+answer-asked none n g i = absurd (List·Memᴰ·not-nil i)
+answer-asked (host behind) n g i =
+    ⊎-elim (λ e. (n, Host, e)) (answer-asked behind (childOf n Host .node) g) (List·Memᴰ·cases-cons i)
+answer-asked (router group behind) n g i =
+    let new = fresh (childIn (childOf n Router)) in
+    ⊎-elim (λ e. (n, Router, e))
+    (λ (j : List·Memᴰ g (answers new group ++ answers (childOf n Router .node) behind)).
+    ⊎-elim (answer-asked group new g) (answer-asked behind (childOf n Router .node) g) (List·Memᴰ·append-cases (answers new group) j))
+    (List·Memᴰ·cases-cons i)
+
+-- a refused one as a reply
+replyOf-three : (g : Given) → IsAnswer g → g .refusal ≡ 3 → replyOf g ≡ replied 3 0
+unfolding replyOf
+replyOf-three g (m, kind, e) three =
+    let z : childIn g ≡ 0 =
+    ap childIn e ∙ child-refusals .beside m kind (λ (q : childOf m kind .refusal ≡ 0). omega (arith, ap refusalOf e)) .0 in
+    rw (ne-eqb (g .refusal) 1 (λ q. omega arith), three, z)
+
+three-replyOf : (g : Given) → replyOf g ≡ replied 3 0 → g .refusal ≡ 3
+unfolding replyOf
+three-replyOf g e = go (ℕ-discrete (g .refusal) 1)
+  where
+    go : Dec (g .refusal ≡ 1) → g .refusal ≡ 3
+    go (yes one) = unfold replyOf in
+        let f : nobody ≡ replied 3 0 = rw (eq-eqb (g .refusal) 1 one) at e in
+        let z : _≡_ {A = ℕ} 0 1 = cc in
+        absurd (omega arith)
+    go (no ne) = unfold replyOf in
+        let f : replied (g .refusal) (childIn g) ≡ replied 3 0 = rw (ne-eqb (g .refusal) 1 ne) at e in
+        cc
+
+pub three-refused : (group : Items) (n : Node)
+    → List·Memᴰ 3 (map refusalOf (answers n group)) ↔ List·Memᴰ (replied 3 0) (map replyOf (answers n group))
+three-refused group n = (
+  λ i.
+      let (g, j, e) = Memᴰ·of-map refusalOf (answers n group) i in
+      Memᴰ·cast (sym (replyOf-three g (answer-asked group n g j) e)) (Memᴰ·map replyOf j),
+  λ i. let (g, j, e) = Memᴰ·of-map replyOf (answers n group) i in Memᴰ·cast (sym (three-replyOf g e)) (Memᴰ·map refusalOf j),
+)
