@@ -13,16 +13,19 @@ use Rattle.ipv6.specs.Form.{formWriting, formReading}
 use Rattle.forward.specs.Forward.{nextHop}
 use Rattle.packet.specs.Packet.{packetHop}
 use Rattle.route.specs.Path.{listing}
+use Rattle.plan.specs.Plan.{planning}
 use Rattle.pasa.specs.declared.bytes.PasaWritten.{PasaWritten}
 use Rattle.pasa.specs.declared.bytes.PasaRead.{PasaRead}
 use Rattle.pasa.specs.declared.bytes.PasaAddress.{PasaAddress}
 use Rattle.pasa.specs.declared.paths.PasaListed.{PasaListed}
+use Rattle.pasa.specs.declared.plans.PasaPlan.{PasaPlan}
 use Rattle.pasa.specs.Children.{PasaNode, PasaChild, nodeOf, pasaNode, pasaChild}
 use Rattle.batch.specs.declared.PasaHop.{PasaHop}
 use Rattle.batch.specs.Exported.{pasaHop}
 use Rattle.batch.specs.Batch.{BatchEffect, nextHops}
 use Rattle.pasa.specs.Bytes.{pasaWritten, pasaRead, pasaAddress}
 use Rattle.pasa.specs.Paths.{pasaListed}
+use Rattle.pasa.specs.Plans.{pasaPlan}
 use Rattle.pasa.proofs.children.node_of.Reads as node-of-reads
 use Rattle.pasa.proofs.children.pasa_fresh.Reads as fresh-reads
 use Rattle.pasa.proofs.children.pasa_child_router.Reads as child-router-reads
@@ -35,6 +38,7 @@ use Rattle.pasa.proofs.bytes.pasa_header_read.Reads as header-read-read
 use Rattle.pasa.proofs.bytes.pasa_ipv6_write.Reads as ipv6-write-reads
 use Rattle.pasa.proofs.bytes.pasa_ipv6_read.Reads as ipv6-read-reads
 use Rattle.pasa.proofs.paths.pasa_path.Reads as path-reads
+use Rattle.pasa.proofs.plans.pasa_plan_read.Reads as plan-read-reads
 
 -- a lent slice
 abbrev Slice : Type 0
@@ -91,6 +95,11 @@ pub path-promise : (κs : Lfts 1) (a d : ℕ) (words last : Slice) (r : PasaList
     → (r ≡ pasaListed (listing a d (now words) .answer)) × (now last ≡ listing a d (now words) .words)
 path-promise κs a d words last r h = h
 
+pub plan-read-promise : (κs : Lfts 2) (text words last : Slice) (r : PasaPlan)
+    → plan-read-reads.Learnt κs (text, (words, tt)) r (text, (last, tt))
+    → (r ≡ pasaPlan (planning (now text) (now words) .answer)) × (now last ≡ planning (now text) (now words) .words)
+plan-read-promise κs text words last r h = h
+
 -- ---- no export asks anything of its caller
 
 pub node-of-asks-nothing : (n : PasaNode) → node-of-reads.Asked tt (n, tt)
@@ -129,3 +138,6 @@ ipv6-read-asks-nothing κs prefix ipv6 = tt
 
 pub path-asks-nothing : (κs : Lfts 1) (a d : ℕ) (words : Slice) → path-reads.Asked κs (a, (d, (words, tt)))
 path-asks-nothing κs a d words = tt
+
+pub plan-read-asks-nothing : (κs : Lfts 2) (text words : Slice) → plan-read-reads.Asked κs (text, (words, tt))
+plan-read-asks-nothing κs text words = tt

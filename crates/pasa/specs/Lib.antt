@@ -2,4 +2,5 @@
 pub mod Children
 pub mod Bytes
 pub mod Paths
+pub mod Plans
 pub mod Addresses

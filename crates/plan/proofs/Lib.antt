@@ -6,3 +6,4 @@ mod Parts
 mod ItemLaws
 mod HallLaws
 mod PlanLaws
+pub mod Promises
