@@ -1,1 +1,6 @@
 -- The laws of the plan crate.
+pub mod MoveLaws
+pub mod Spelling
+pub mod Completing
+pub mod Wholly
+pub mod Stopping
