@@ -4,3 +4,5 @@ pub mod Spelling
 pub mod Completing
 pub mod Wholly
 pub mod Stopping
+pub mod Exact
+pub mod TooLong
