@@ -6,3 +6,4 @@ pub mod Wholly
 pub mod Stopping
 pub mod Exact
 pub mod TooLong
+pub mod RefusalLaws
