@@ -7,3 +7,5 @@ pub mod Stopping
 pub mod Exact
 pub mod TooLong
 pub mod RefusalLaws
+pub mod OneRule
+pub mod WrongRules
