@@ -1,15 +1,15 @@
 -- What completes a text: of each group that is open, the innermost first, items and a ")", as far as groups may be open. A byte in front of
 -- what completes is one of a move, and a move leads from what completes to what completes; so a text of the grammar is what completes nothing
 -- read. Assumes nothing.
-use Prim.Native.Nat.{ℕ, zero, suc, _+_, _≤_, _<_}
+use Prim.Native.Nat.{ℕ, zero, suc, _+_, _≤_}
 use mathlib.Core.Path.{_≡_, refl, sym, ap, ap₂, subst, _∙_}
 use mathlib.Core.Logic.{_↔_}
-use mathlib.Core.List.{List, [], _∷_, _++_, append-nil, nil≢cons, head-eq-of-cons-eq, tail-eq-of-cons-eq}
+use mathlib.Core.List.{List, [], _∷_, _++_, nil≢cons, head-eq-of-cons-eq, tail-eq-of-cons-eq}
 use native.Mathlib.Omega.{arith}
 use lib.ListN.{length, replicate}
 use Rattle.node.specs.declared.Node.{Node}
 use Rattle.plan.specs.Limits.{mostGroups}
-use Rattle.plan.specs.Grammar.{letterR, letterH, opening, closing, Items, none, host, router, itemsText, planText, groupsOpen, Spells, IsText}
+use Rattle.plan.specs.Grammar.{letterR, letterH, opening, closing, Items, none, host, router, itemsText, planText, groupsOpen, IsText}
 use Rattle.plan.specs.Reading.{Expected, start, group, inside}
 use Rattle.plan.proofs.MoveLaws.{Moved, starts, opens, closes, hosts, routers}
 use Rattle.plan.proofs.Spelling.{itemsText-router}
@@ -91,9 +91,11 @@ module _ (n : Node) (up : List Node) (o : ℕ) (s rest : List ℕ) (c : Closes (
   further-item (host i) e l = further (hosts n up (head-eq-of-cons-eq e)) (close i (tail-eq-of-cons-eq e) l c)
   further-item (router g i) e l =
       let texts = e ∙ itemsText-router g i (closing ∷ rest) in
-      further (routers n up (head-eq-of-cons-eq texts) (omega arith))
-      (itemsText g ++ closing ∷ (itemsText i ++ closing ∷ rest), tail-eq-of-cons-eq texts,
-      close {k = length (n ∷ up)} g refl (omega arith) (close {k = length up} i refl (omega arith) c))
+      further (routers n up (head-eq-of-cons-eq texts) (omega arith)) (
+        itemsText g ++ closing ∷ (itemsText i ++ closing ∷ rest),
+        tail-eq-of-cons-eq texts,
+        close {k = length (n ∷ up)} g refl (omega arith) (close {k = length up} i refl (omega arith) c),
+      )
 
 no-bytes : {o : ℕ} {s : List ℕ} → Closes 0 (o ∷ s) → ⊥
 no-bytes c = elim c [ ]

@@ -1,10 +1,10 @@
 -- A text is read whole exactly if the grammar spells it, and otherwise the fault is where it stops: a start's beginnings are starts, so there is
 -- one such place, and the reading finds it. Assumes nothing.
-use Prim.Native.Nat.{ℕ, suc, _+_, _≤_, _<_}
+use Prim.Native.Nat.{ℕ, suc, _≤_, _<_}
 use mathlib.Core.Path.{_≡_, refl, sym, ap, subst, _∙_}
-use mathlib.Core.Logic.{_⊎_, inl, inr, _↔_}
+use mathlib.Core.Logic.{_⊎_, inl, inr}
 use mathlib.Core.List.{List, [], _++_, append-assoc, append-nil}
-use native.Mathlib.Decide.{ℕ-discrete, decLt}
+use native.Mathlib.Decide.{decLt}
 use native.Mathlib.Omega.{arith}
 use lib.ListN.{length, take, drop, take-append-drop}
 use lib.Seq.{take-take}
@@ -13,9 +13,9 @@ use Rattle.plan.specs.Hall.{hall}
 use Rattle.plan.specs.Reading.{start, Reading, whole, faultAt, reading}
 use Rattle.plan.specs.Exactly.{Grammar, ExactlyTheGrammar}
 use Rattle.plan.proofs.Spelling.{one-plan}
-use Rattle.plan.proofs.Completing.{Completes, completes-text}
+use Rattle.plan.proofs.Completing.{completes-text}
 use Rattle.plan.proofs.Wholly.{length-hall, reading-spells}
-use Rattle.plan.proofs.Stopping.{readFrom-whole, StopsIn, Stopped, stopped, readFrom-faultAt}
+use Rattle.plan.proofs.Stopping.{readFrom-whole, HaltsIn, StopsIn, Stopped, stopped, readFrom-faultAt}
 
 -- ---- starts
 
@@ -34,11 +34,14 @@ start-text text t = ([], subst IsText (sym (append-nil text)) t)
 
 -- ---- one place
 
+-- one byte more is no start, or there is none more
+abbrev Halts : List ℕ → ℕ → Type 0
+Halts text p = ((p < length text) × (IsStart (take (suc p) text) → ⊥)) ⊎ ((p ≡ length text) × (IsText text → ⊥))
+
 never-before : (text : List ℕ) (p q : ℕ) → Stops text p → Stops text q → p < q → ⊥
 never-before text p q s t l = go (s .stops) (t .stops)
   where
-    go : ((p < length text) × (IsStart (take (suc p) text) → ⊥)) ⊎ ((p ≡ length text) × (IsText text → ⊥))
-        → ((q < length text) × (IsStart (take (suc q) text) → ⊥)) ⊎ ((q ≡ length text) × (IsText text → ⊥)) → ⊥
+    go : Halts text p → Halts text q → ⊥
     go (inl (short, none)) others = none (start-take (suc p) q text l (t .start))
     go (inr (all, none)) (inl (short, other)) = omega arith
     go (inr (all, none)) (inr (same, other)) = omega arith
@@ -54,7 +57,7 @@ one-place text p q s t = go (decLt p q) (decLt q p)
 pub not-both : (text : List ℕ) (p : ℕ) → IsText text → Stops text p → ⊥
 not-both text p t s = go (s .stops)
   where
-    go : ((p < length text) × (IsStart (take (suc p) text) → ⊥)) ⊎ ((p ≡ length text) × (IsText text → ⊥)) → ⊥
+    go : Halts text p → ⊥
     go (inl (short, none)) =
         none (start-append (take (suc p) text) (drop (suc p) text) (subst IsStart (sym (take-append-drop (suc p) text)) (start-text text t)))
     go (inr (all, none)) = none t
@@ -69,8 +72,7 @@ pub faultAt-stops : (text : List ℕ) (p : ℕ) → reading text ≡ faultAt p �
 unfolding reading
 faultAt-stops text p h = go (readFrom-faultAt text 0 start tt h)
   where
-    ends : (k : ℕ) → ((k < length text) × ((t : List ℕ) → Completes start (take (suc k) text ++ t) → ⊥)) ⊎ ((k ≡ length text) × (Completes start text → ⊥))
-        → ((k < length text) × (IsStart (take (suc k) text) → ⊥)) ⊎ ((k ≡ length text) × (IsText text → ⊥))
+    ends : (k : ℕ) → HaltsIn start text k → Halts text k
     ends k (inl (short, none)) = inl (short, λ (t, i). none t (completes-text (take (suc k) text ++ t) .1 i))
     ends k (inr (all, none)) = inr (all, λ i. none (completes-text text .1 i))
 

@@ -1,14 +1,13 @@
 -- What one byte comes to: the moves that there are, each with its byte and what is expected before it, and the reading of a byte and a text
 -- behind it by the byte's move. Assumes nothing.
-use Prim.Native.Nat.{ℕ, suc, _≤_, _<_}
-use mathlib.Core.Path.{_≡_, refl, sym, ap, _∙_}
+use Prim.Native.Nat.{ℕ, suc, _<_}
+use mathlib.Core.Path.{_≡_, refl, ap, _∙_}
 use mathlib.Core.Bool.{Bool, true, false, _&&_, and-eq-true-iff}
 use mathlib.Core.List.{List, [], _∷_, _++_, append-assoc}
 use native.Mathlib.Omega.{arith}
 use borrow.Author.Tests.{eqb-true, ltb-true, lt-ltb}
 use lib.ListN.{length}
 use lib.Dec.{eqb, ltb}
-use Rattle.address.specs.Choice.{if_then_else_}
 use Rattle.address.specs.Bits.{root}
 use Rattle.address.specs.declared.Kind.the-variants.{Router, Host}
 use Rattle.node.specs.Node.{fresh, childOf}

@@ -1,15 +1,14 @@
 -- The statement of the refusals allows one rule: at each text and words it gives the refusal's number, and with that the place, the nodes and
 -- the words. Assumes nothing.
 use Prim.Native.Nat.{ℕ}
-use mathlib.Core.Path.{_≡_, refl, sym, ap, _∙_}
+use mathlib.Core.Path.{_≡_, sym, _∙_}
 use mathlib.Core.List.{List, _++_}
 use native.Mathlib.Decide.{ℕ-discrete}
-use native.Mathlib.Omega.{arith}
 use lib.ListN.{drop}
 use Rattle.plan.specs.Grammar.{Items}
 use Rattle.plan.specs.Hall.{hall, nodes}
 use Rattle.plan.specs.Plan.{PlanEffect, planning}
-use Rattle.plan.specs.Refusals.{PlanOf, PlanRefusals}
+use Rattle.plan.specs.Refusals.{PlanRefusals}
 use Rattle.plan.proofs.Spelling.{of-the-plan}
 use Rattle.plan.proofs.Exact.{one-place}
 use Rattle.plan.proofs.RefusalLaws.{End, planning-end, end-first, end-place, end-no-place, end-beside, end-without}

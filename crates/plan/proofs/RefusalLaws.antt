@@ -1,9 +1,9 @@
 -- A plan is refused exactly where one of the conditions holds: the reading of a plan ends in one of six ways, each with its condition and with
 -- those before it passed. Assumes nothing.
 use Prim.Native.Nat.{ℕ, _≤_, _<_}
-use mathlib.Core.Path.{_≡_, refl, sym, ap, subst, _∙_}
+use mathlib.Core.Path.{_≡_, refl}
 use mathlib.Core.Bool.{Bool, true, false}
-use mathlib.Core.Logic.{_⊎_, inl, inr}
+use mathlib.Core.Logic.{inl, inr}
 use mathlib.Core.List.{List, _++_}
 use native.Mathlib.Omega.{arith}
 use borrow.Author.Tests.{ltb-true, ltb-false}
@@ -13,7 +13,7 @@ use Rattle.address.specs.Choice.{if_then_else_}
 use Rattle.address.specs.Order.{First}
 use Rattle.address.proofs.OrderLaws.{given-exactly}
 use Rattle.plan.specs.Limits.{mostBytes, mostNodes}
-use Rattle.plan.specs.Grammar.{Items, Spells, IsText, Stops}
+use Rattle.plan.specs.Grammar.{Items, Spells, Stops}
 use Rattle.plan.specs.Hall.{hall, nodes, SomeTooLong}
 use Rattle.plan.specs.Reading.{Reading, whole, faultAt, reading}
 use Rattle.plan.specs.Plan.{PlanEffect, refusePlan, missing, listed, judged, planning}
@@ -94,17 +94,38 @@ module _ {text words : List ℕ} where
   end-first (outside short p s) = inr (λ l. omega arith, inl (λ t. not-both text p t s, refl))
   end-first (manyNodes short plan s many) = inr (λ l. omega arith, inr (λ n. n (plan, s), inl ((plan, s, many), refl)))
   end-first (tooLong short plan s few long) =
-      inr (λ l. omega arith, inr (λ n. n (plan, s),
-      inr (λ o. omega (arith, of-the-plan (λ (i : Items). mostNodes < nodes i) s o), inl ((plan, s, long), refl))))
+      inr (
+        λ l. omega arith,
+        inr (
+          λ n. n (plan, s),
+          inr (λ o. omega (arith, of-the-plan (λ (i : Items). mostNodes < nodes i) s o), inl ((plan, s, long), refl)),
+        ),
+      )
   end-first (noRoom short plan s few none full) =
-      inr (λ l. omega arith, inr (λ n. n (plan, s),
-      inr (λ o. omega (arith, of-the-plan (λ (i : Items). mostNodes < nodes i) s o),
-      inr (λ o. none (of-the-plan SomeTooLong s o), inl ((plan, s, full), refl)))))
+      inr (
+        λ l. omega arith,
+        inr (
+          λ n. n (plan, s),
+          inr (
+            λ o. omega (arith, of-the-plan (λ (i : Items). mostNodes < nodes i) s o),
+            inr (λ o. none (of-the-plan SomeTooLong s o), inl ((plan, s, full), refl)),
+          ),
+        ),
+      )
   end-first (fits short plan s few none room) =
-      inr (λ l. omega arith, inr (λ n. n (plan, s),
-      inr (λ o. omega (arith, of-the-plan (λ (i : Items). mostNodes < nodes i) s o),
-      inr (λ o. none (of-the-plan SomeTooLong s o),
-      inr (λ o. omega (arith, of-the-plan (λ (i : Items). length words < nodes i) s o), refl)))))
+      inr (
+        λ l. omega arith,
+        inr (
+          λ n. n (plan, s),
+          inr (
+            λ o. omega (arith, of-the-plan (λ (i : Items). mostNodes < nodes i) s o),
+            inr (
+              λ o. none (of-the-plan SomeTooLong s o),
+              inr (λ o. omega (arith, of-the-plan (λ (i : Items). length words < nodes i) s o), refl),
+            ),
+          ),
+        ),
+      )
 
   pub end-place : {e : PlanEffect} → End text words e → e .answer .refusal ≡ 13 → Stops text (e .answer .place)
   unfolding refusePlan written

@@ -4,7 +4,7 @@ use Prim.Native.Nat.{ℕ}
 use mathlib.Core.Path.{_≡_, refl, sym, ap, ap₂, subst, _∙_}
 use mathlib.Core.List.{List, [], _∷_, _++_, append-assoc, head-eq-of-cons-eq, tail-eq-of-cons-eq}
 use native.Mathlib.Omega.{arith}
-use Rattle.plan.specs.Grammar.{letterR, letterH, opening, closing, Items, none, host, router, itemsText, planText, Spells}
+use Rattle.plan.specs.Grammar.{letterR, opening, closing, Items, none, host, router, itemsText, planText, Spells}
 use Rattle.plan.specs.Refusals.{PlanOf}
 
 -- a router's group and the items behind it, with more behind those

@@ -1,16 +1,14 @@
 -- A reading is whole where the text completes what is expected, and otherwise stops where the text stops being the start of what completes it:
 -- up to the fault each byte is one of a move, and what is expected there can be completed. Assumes nothing.
-use Prim.Native.Nat.{ℕ, zero, suc, _+_, _<_}
+use Prim.Native.Nat.{ℕ, suc, _+_, _<_}
 use mathlib.Core.Path.{_≡_, refl, sym, ap, subst, _∙_}
 use mathlib.Core.Logic.{_⊎_, inl, inr}
 use mathlib.Core.List.{List, [], _∷_, _++_}
 use native.Mathlib.Omega.{arith}
 use lib.ListN.{length, take}
-use Rattle.node.specs.declared.Node.{Node}
-use Rattle.plan.specs.Grammar.{IsText, IsStart, Stops}
-use Rattle.plan.specs.Reading.{Expected, start, group, inside, Move, to, fault, move, Reading, whole, faultAt, behind, ended, readFrom, reading}
+use Rattle.plan.specs.Reading.{Expected, start, group, inside, fault, move, whole, faultAt, ended, readFrom}
 use Rattle.plan.proofs.MoveLaws.{Moved, moved-move, Outcome, goes, stands, outcome, readFrom-to, readFrom-fault, behind-whole, behind-faultAt}
-use Rattle.plan.proofs.Completing.{nothing, Completes, Live, live-moved, completed, completes-from, Further, further, completes-to, completes-end, completes-text}
+use Rattle.plan.proofs.Completing.{nothing, Completes, Live, live-moved, completed, completes-from, Further, further, completes-to, completes-end}
 
 no-whole : {place : ℕ} {given : List ℕ} {A : Type 0} → faultAt place ≡ whole given → A
 no-whole e = let z : _≡_ {A = ℕ} 0 1 = cc in absurd (omega arith)
@@ -29,7 +27,8 @@ pub readFrom-whole : (s : List ℕ) (p : ℕ) (e : Expected) {given : List ℕ} 
 readFrom-whole [] p e l h = ended-whole p e h
 readFrom-whole (o ∷ s) p e {given} l h = go (outcome e o) (λ next all m h. readFrom-whole s (suc p) next m h)
   where
-    go : Outcome e o → ((next : Expected) (all : List ℕ) → Live next → readFrom (suc p) next s ≡ whole all → Completes next s) → Completes e (o ∷ s)
+    go : Outcome e o → ((next : Expected) (all : List ℕ) → Live next → readFrom (suc p) next s ≡ whole all → Completes next s)
+        → Completes e (o ∷ s)
     go (goes {given = first} {next} m) rest =
         let others = behind-whole first (readFrom (suc p) next s) (sym (readFrom-to p e o s (moved-move m)) ∙ h) in
         completes-from s l m (rest next (others .0) (live-moved l m) (others .1))
@@ -37,11 +36,15 @@ readFrom-whole (o ∷ s) p e {given} l h = go (outcome e o) (λ next all m h. re
 
 -- ---- at a fault
 
--- so many bytes are the start of what completes, and one more is not, or there is none more
+-- one byte more is no start of what completes, or there is none more
+abbrev pub HaltsIn : Expected → List ℕ → ℕ → Type 0
+HaltsIn e s k = ((k < length s) × ((t : List ℕ) → Completes e (take (suc k) s ++ t) → ⊥)) ⊎ ((k ≡ length s) × (Completes e s → ⊥))
+
+-- so many bytes are the start of what completes, and no more
 pub record StopsIn (e : Expected) (s : List ℕ) (k : ℕ) : Type 0 where
   pub rest : List ℕ
   pub begun : Completes e (take k s ++ rest)
-  pub stops : ((k < length s) × ((t : List ℕ) → Completes e (take (suc k) s ++ t) → ⊥)) ⊎ ((k ≡ length s) × (Completes e s → ⊥))
+  pub stops : HaltsIn e s k
 
 -- a move further
 further-moved : {e next : Expected} {o : ℕ} {given s : List ℕ} → Moved e o given next → Further e o s → Completes next s
@@ -57,9 +60,7 @@ module _ {e next : Expected} {o : ℕ} {given s : List ℕ} (l : Live e) (m : Mo
   stops-moved : StopsIn next s k → StopsIn e (o ∷ s) (suc k)
   stops-moved h = record { rest = h .rest; begun = completes-from (take k s ++ h .rest) l m (h .begun); stops = ends (h .stops) }
     where
-      ends : ((k < length s) × ((t : List ℕ) → Completes next (take (suc k) s ++ t) → ⊥)) ⊎ ((k ≡ length s) × (Completes next s → ⊥))
-          → ((suc k < length (o ∷ s)) × ((t : List ℕ) → Completes e (o ∷ (take (suc k) s ++ t)) → ⊥))
-          ⊎ ((suc k ≡ length (o ∷ s)) × (Completes e (o ∷ s) → ⊥))
+      ends : HaltsIn next s k → HaltsIn e (o ∷ s) (suc k)
       ends (inl (short, none)) = inl (omega arith, λ t c. none t (completes-moved (take (suc k) s ++ t) m c))
       ends (inr (all, none)) = inr (omega arith, λ c. none (completes-moved s m c))
 
@@ -73,7 +74,11 @@ stops-end : (e : Expected) (p : ℕ) {place : ℕ} → Live e → readFrom p e [
 stops-end e p l h = record { rest = completed e l .0; begun = completed e l .1; stops = inr (refl, λ c. never (completes-end e c)) }
   where
     never : e ≡ inside [] → ⊥
-    never i = unfold readFrom ended in let w = sym (ap (λ (x : Expected). readFrom p x []) i) ∙ h in let z : _≡_ {A = ℕ} 0 1 = cc in omega arith
+    never i =
+        unfold readFrom ended in
+        let both = sym (ap (λ (x : Expected). readFrom p x []) i) ∙ h in
+        let z : _≡_ {A = ℕ} 0 1 = cc in
+        omega arith
 
 ended-place : (p : ℕ) (e : Expected) {place : ℕ} → readFrom p e [] ≡ faultAt place → place ≡ p
 unfolding readFrom ended
@@ -93,7 +98,8 @@ readFrom-faultAt (o ∷ s) p e {place} l h = go (outcome e o) (λ next m i. read
     one-more : {next : Expected} {given : List ℕ} → Moved e o given next → Stopped next s (suc p) place → Stopped e (o ∷ s) p place
     one-more m (stopped k at stops) = stopped (suc k) (omega arith) (stops-moved l m k stops)
 
-    go : Outcome e o → ((next : Expected) → Live next → readFrom (suc p) next s ≡ faultAt place → Stopped next s (suc p) place) → Stopped e (o ∷ s) p place
+    go : Outcome e o → ((next : Expected) → Live next → readFrom (suc p) next s ≡ faultAt place → Stopped next s (suc p) place)
+        → Stopped e (o ∷ s) p place
     go (goes {given = first} {next} m) rest =
         one-more m (rest next (live-moved l m) (behind-faultAt first (readFrom (suc p) next s) (sym (readFrom-to p e o s (moved-move m)) ∙ h)))
     go (stands f) rest =

@@ -7,20 +7,17 @@ use mathlib.Core.Logic.{_⊎_, inl, inr, _↔_, ⊎-elim}
 use mathlib.Core.List.{List, [], _∷_, _++_, map, map-append, append-assoc, List·Memᴰ, List·Memᴰ·not-nil, List·Memᴰ·cases-cons, List·Memᴰ·append-cases, Memᴰ·append-left, Memᴰ·append-right, List·Memᴰ·head as first, List·Memᴰ·tail as later}
 use native.Mathlib.Omega.{arith}
 use lib.ListN.{replicate}
-use Rattle.address.specs.Bits.{Bit, O, I, bits, longest, root}
+use Rattle.address.specs.Bits.{O, I, bits, longest, root}
 use Rattle.address.specs.Steps.{stepBits, lastOf}
 use Rattle.address.specs.Address.{isHost}
-use Rattle.address.specs.Numbers.{IsAddress}
 use Rattle.address.specs.Order.{First}
 use Rattle.address.specs.declared.Kind.{Kind}
 use Rattle.address.specs.declared.Kind.the-variants.{Router, Host}
 use Rattle.address.proofs.KindLaws.{kinds, isHost-true, isHost-no-host}
-use Rattle.node.specs.Node.{addressIn, fresh, count, raised, isGood, childOf}
+use Rattle.node.specs.Node.{addressIn, fresh, count, isGood, childOf}
 use Rattle.node.specs.declared.Node.{Node}
-use Rattle.node.specs.declared.Given.{Given}
 use Rattle.node.specs.Refusals.{childOrder}
-use Rattle.node.specs.Children.{IsChild}
-use Rattle.node.proofs.Children.{addressIn-fresh, isGood-fresh, addressIn-raised}
+use Rattle.node.proofs.Children.{isGood-fresh}
 use Rattle.node.proofs.RefusalLaws.{not-bad, child-refusals}
 use Rattle.node.proofs.GivenChildren.{gives-children}
 use Rattle.plan.specs.Grammar.{Items, none, host, router}

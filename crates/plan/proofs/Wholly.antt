@@ -9,11 +9,10 @@ use Rattle.address.specs.Bits.{root}
 use Rattle.address.specs.declared.Kind.the-variants.{Router, Host}
 use Rattle.node.specs.Node.{fresh, childOf}
 use Rattle.node.specs.declared.Node.{Node}
-use Rattle.node.specs.declared.Given.{Given}
 use Rattle.plan.specs.Limits.{mostGroups}
 use Rattle.plan.specs.Grammar.{letterR, letterH, opening, closing, Items, none, host, router, itemsText, planText, groupsOpen, Spells}
 use Rattle.plan.specs.Hall.{childIn, answers, hall, items, nodes}
-use Rattle.plan.specs.Reading.{Expected, start, group, inside, Reading, whole, behind, ended, readFrom, reading}
+use Rattle.plan.specs.Reading.{start, group, inside, whole, behind, ended, readFrom, reading}
 use Rattle.plan.proofs.MoveLaws.{move-start, move-group, move-closing, move-host, move-router, readFrom-to, behind-nil, behind-append}
 use Rattle.plan.proofs.Spelling.{itemsText-router}
 

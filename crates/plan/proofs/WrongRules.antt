@@ -1,7 +1,7 @@
 -- Each wrong rule is refuted by its answer to one text: what the right rule comes to there is all that the statement allows. Where the text is
 -- long, laws say what it comes to.
-use Prim.Native.Nat.{ℕ, zero, suc, _+_, _≤_, _<_}
-use mathlib.Core.Path.{_≡_, refl, sym, ap, subst, _∙_}
+use Prim.Native.Nat.{ℕ, zero, suc, _+_, _<_}
+use mathlib.Core.Path.{_≡_, refl, sym, ap, _∙_}
 use mathlib.Core.Bool.{Bool, true, false}
 use mathlib.Core.Logic.{inl, inr, ⊎-elim}
 use mathlib.Core.List.{List, [], _∷_, _++_, map, List·Memᴰ, List·Memᴰ·head as first, List·Memᴰ·tail as later}
@@ -12,17 +12,17 @@ use Rattle.address.specs.Choice.{if_then_else_}
 use Rattle.address.specs.Bits.{lastBit, bitsIn, bits, digit, numberFrom, number, root}
 use Rattle.address.specs.Steps.{lastOf, stepBits}
 use Rattle.address.specs.Address.{bitLength, endsInOne, isHost}
-use Rattle.address.specs.declared.Kind.the-variants.{Router, Host}
-use Rattle.node.specs.Node.{addressIn, fresh, count, raised, isGood, childBits, refuseChild, childOf}
+use Rattle.address.specs.declared.Kind.the-variants.{Host}
+use Rattle.node.specs.Node.{fresh, count, raised, isGood, childBits, refuseChild, childOf}
 use Rattle.node.specs.declared.Node.{Node}
 use Rattle.node.proofs.ChildLaws.{room}
-use Rattle.node.proofs.Children.{count-fresh, count-raised, count-le}
+use Rattle.node.proofs.Children.{count-raised, count-le}
 use Rattle.node.proofs.RefusalLaws.{child-refusals}
 use Rattle.node.proofs.GivenChildren.{gives-children}
 use Rattle.plan.specs.Limits.{mostNodes}
 use Rattle.plan.specs.Grammar.{letterR, letterH, opening, closing, Items, none, host, router, itemsText, planText, groupsOpen, Spells, IsText}
-use Rattle.plan.specs.Hall.{answers, hall, items, nodes, refusalOf, SomeTooLong}
-use Rattle.plan.specs.Reading.{Expected, start, group, inside, Move, to, fault, moveItem, move, Reading, whole, faultAt, behind, ended, readFrom, reading}
+use Rattle.plan.specs.Hall.{answers, items, nodes, refusalOf, SomeTooLong}
+use Rattle.plan.specs.Reading.{Expected, start, Move, to, fault, moveItem, move, Reading, whole, faultAt, behind, ended, readFrom, reading}
 use Rattle.plan.specs.Plan.{PlanEffect, refusePlan, missing, listed, judged, planning}
 use Rattle.plan.specs.Refusals.{PlanRefusals}
 use Rattle.plan.specs.WrongRules.{judgedBy, planningBy, rightParts, refusesAll, grammarFirst, letters, nodesFirst, roomFirst, placeFromOne, placeBeside, writesWithoutRoom, writesRoot, rootUncounted, readFromBy, moving, moveUnlimited, unlimited, withoutAddress, closingAddress, moveLate, routersLate}
@@ -31,7 +31,7 @@ use Rattle.plan.proofs.Spelling.{planText-one}
 use Rattle.plan.proofs.Wholly.{length-hall, reading-spells}
 use Rattle.plan.proofs.Exact.{not-both, faultAt-stops}
 use Rattle.plan.proofs.TooLong.{Inner, inner-root, inner-next, inner-refusal}
-use Rattle.plan.proofs.RefusalLaws.{End, tooLong, end-first}
+use Rattle.plan.proofs.RefusalLaws.{tooLong}
 use Rattle.plan.proofs.OneRule.{only-end, one-rule}
 
 -- ---- the wrong rules are made as the right one is
@@ -103,15 +103,21 @@ rootUncounted-refuted claim = omega (arith, ap (λ (e : PlanEffect). e .answer .
 pub writesWithoutRoom-refuted : PlanRefusals writesWithoutRoom → ⊥
 unfolding opened addresses-opened writesWithoutRoom
 writesWithoutRoom-refuted claim =
-    omega (arith, ap (λ (e : PlanEffect). getD (e .words) 0 0)
-    (one-rule writesWithoutRoom claim (letterR ∷ opening ∷ letterH ∷ closing ∷ []) (0 ∷ [])))
+    omega (
+      arith,
+      ap (λ (e : PlanEffect). getD (e .words) 0 0)
+          (one-rule writesWithoutRoom claim (letterR ∷ opening ∷ letterH ∷ closing ∷ []) (0 ∷ [])),
+    )
 
 -- "R(R(H))": 1, 10, 101, and not 1, 101, 10
 pub routersLate-refuted : PlanRefusals routersLate → ⊥
 unfolding opened addresses-opened readFromBy withoutAddress closingAddress moveLate routersLate
 routersLate-refuted claim =
-    omega (arith, ap (λ (e : PlanEffect). getD (e .words) 1 0)
-    (one-rule routersLate claim (letterR ∷ opening ∷ letterR ∷ opening ∷ letterH ∷ closing ∷ closing ∷ []) (0 ∷ 0 ∷ 0 ∷ [])))
+    omega (
+      arith,
+      ap (λ (e : PlanEffect). getD (e .words) 1 0)
+          (one-rule routersLate claim (letterR ∷ opening ∷ letterR ∷ opening ∷ letterH ∷ closing ∷ closing ∷ []) (0 ∷ 0 ∷ 0 ∷ [])),
+    )
 
 -- ---- long texts
 
@@ -147,12 +153,17 @@ hosts (suc k) = host (hosts k)
 hosts-refused : (k : ℕ) (n : Node) → Inner n → room n < count Host n + k → List·Memᴰ 3 (map refusalOf (answers n (hosts k)))
 unfolding answers hosts
 hosts-refused zero n inner h = absurd (omega (arith, count-le n (inner .good) (inner .noHost) Host))
-hosts-refused (suc k) n inner h = ⊎-elim (λ e. first (sym e)) (λ e. later (rest e (hosts-refused k (childOf n Host .node) (inner-next Host inner)))) (inner-refusal Host inner)
+hosts-refused (suc k) n inner h =
+    ⊎-elim (λ e. first (sym e)) (λ e. later (hosts-refused k (childOf n Host .node) (inner-next Host inner) (fewer e))) (inner-refusal Host inner)
   where
-    rest : childOf n Host .refusal ≡ 0 → (room (childOf n Host .node) < count Host (childOf n Host .node) + k → List·Memᴰ 3 (map refusalOf (answers (childOf n Host .node) (hosts k))))
-        → List·Memᴰ 3 (map refusalOf (answers (childOf n Host .node) (hosts k)))
-    rest e more =
-        more (omega (arith, ap (count Host) (child-refusals .without n Host e), count-raised Host n, ap bitLength (gives-children .keepsAddress n Host)))
+    fewer : childOf n Host .refusal ≡ 0 → room (childOf n Host .node) < count Host (childOf n Host .node) + k
+    fewer e =
+        omega (
+          arith,
+          ap (count Host) (child-refusals .without n Host e),
+          count-raised Host n,
+          ap bitLength (gives-children .keepsAddress n Host),
+        )
 
 abbrev manyHosts : List ℕ
 manyHosts = planText (hosts 64)
