@@ -1,4 +1,14 @@
--- The laws of the plan crate.
+-- The laws of the plan crate: the reading by the grammar, and then the functions inside the code.
+pub mod MoveLaws
+pub mod Spelling
+pub mod Completing
+pub mod Wholly
+pub mod Stopping
+pub mod Exact
+pub mod TooLong
+pub mod RefusalLaws
+pub mod OneRule
+pub mod WrongRules
 mod Openings
 mod Missing
 mod Moves

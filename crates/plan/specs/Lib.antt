@@ -7,3 +7,4 @@ pub mod Plan
 pub mod Progress
 pub mod Refusals
 pub mod Exactly
+pub mod WrongRules

@@ -1,0 +1,238 @@
+-- Each wrong rule is refuted by its answer to one text: what the right rule comes to there is all that the statement allows. Where the text is
+-- long, laws say what it comes to.
+use Prim.Native.Nat.{ℕ, zero, suc, _+_, _<_}
+use mathlib.Core.Path.{_≡_, refl, sym, ap, _∙_}
+use mathlib.Core.Bool.{Bool, true, false}
+use mathlib.Core.Logic.{inl, inr, ⊎-elim}
+use mathlib.Core.List.{List, [], _∷_, _++_, map, List·Memᴰ, List·Memᴰ·head as first, List·Memᴰ·tail as later}
+use native.Mathlib.Omega.{arith}
+use lib.ListN.{length, drop, replicate, getD, length-replicate}
+use lib.Dec.{ltb}
+use Rattle.address.specs.Choice.{if_then_else_}
+use Rattle.address.specs.Bits.{lastBit, bitsIn, bits, digit, numberFrom, number, root}
+use Rattle.address.specs.Steps.{lastOf, stepBits}
+use Rattle.address.specs.Address.{bitLength, endsInOne, isHost}
+use Rattle.address.specs.declared.Kind.the-variants.{Host}
+use Rattle.node.specs.Node.{fresh, count, raised, isGood, childBits, refuseChild, childOf}
+use Rattle.node.specs.declared.Node.{Node}
+use Rattle.node.proofs.ChildLaws.{room}
+use Rattle.node.proofs.Children.{count-raised, count-le}
+use Rattle.node.proofs.RefusalLaws.{child-refusals}
+use Rattle.node.proofs.GivenChildren.{gives-children}
+use Rattle.plan.specs.Limits.{mostNodes}
+use Rattle.plan.specs.Grammar.{letterR, letterH, opening, closing, Items, none, host, router, itemsText, planText, groupsOpen, Spells, IsText}
+use Rattle.plan.specs.Hall.{answers, items, nodes, refusalOf, SomeTooLong}
+use Rattle.plan.specs.Reading.{Expected, start, Move, to, fault, moveItem, move, Reading, whole, faultAt, behind, ended, readFrom, reading}
+use Rattle.plan.specs.Plan.{PlanEffect, refusePlan, missing, listed, judged, planning}
+use Rattle.plan.specs.Refusals.{PlanRefusals}
+use Rattle.plan.specs.WrongRules.{judgedBy, planningBy, rightParts, refusesAll, grammarFirst, letters, nodesFirst, roomFirst, placeFromOne, placeBeside, writesWithoutRoom, writesRoot, rootUncounted, readFromBy, moving, moveUnlimited, unlimited, withoutAddress, closingAddress, moveLate, routersLate}
+use Rattle.plan.proofs.MoveLaws.{readFrom-fault}
+use Rattle.plan.proofs.Spelling.{planText-one}
+use Rattle.plan.proofs.Wholly.{length-hall, reading-spells}
+use Rattle.plan.proofs.Exact.{not-both, faultAt-stops}
+use Rattle.plan.proofs.TooLong.{Inner, inner-root, inner-next, inner-refusal}
+use Rattle.plan.proofs.RefusalLaws.{tooLong}
+use Rattle.plan.proofs.OneRule.{only-end, one-rule}
+
+-- ---- the wrong rules are made as the right one is
+
+judgedBy-right : (r : Reading) (words : List ℕ) → judgedBy rightParts r words ≡ judged r words
+unfolding judgedBy judged
+judgedBy-right (whole given) words = refl
+judgedBy-right (faultAt place) words = refl
+
+planningBy-right : (text words : List ℕ) → planningBy rightParts text words ≡ planning text words
+unfolding planningBy planning
+planningBy-right text words = rw (judgedBy-right (reading text) words)
+
+readFromBy-right : (s : List ℕ) (p : ℕ) (e : Expected) → readFromBy move p e s ≡ readFrom p e s
+unfolding readFromBy readFrom
+readFromBy-right [] p e = refl
+readFromBy-right (o ∷ s) p e = elim (move e o) as (λ (m : Move).
+    _≡_ {A = Reading} (elim m [
+      | to given next ↦ behind given (readFromBy move (suc p) next s)
+      | fault ↦ faultAt p
+    ]) (elim m [
+      | to given next ↦ behind given (readFrom (suc p) next s)
+      | fault ↦ faultAt p
+    ])) [
+      | to given next ↦ ap (behind given) (readFromBy-right s (suc p) next)
+      | fault ↦ refl
+    ]
+
+-- ---- by computing
+
+-- whoever unfolds `opened` unfolds all that the answers below are computed by
+
+addresses-opened : Unit {0}
+unfolding lastBit bitsIn bits digit numberFrom number lastOf stepBits bitLength endsInOne isHost fresh count raised isGood childBits refuseChild childOf
+addresses-opened = tt
+
+opened : Unit {0}
+unfolding moveItem move behind ended readFrom reading refusePlan missing listed judged planning judgedBy planningBy
+opened = tt
+
+-- "R()"
+abbrev bare : List ℕ
+bare = letterR ∷ opening ∷ closing ∷ []
+
+-- a bare root with a word for it
+pub refusesAll-refuted : PlanRefusals refusesAll → ⊥
+unfolding opened refusesAll
+refusesAll-refuted claim = omega (arith, ap (λ (e : PlanEffect). e .answer .refusal) (one-rule refusesAll claim bare (0 ∷ [])))
+
+-- no text: the fault is at 0
+pub placeFromOne-refuted : PlanRefusals placeFromOne → ⊥
+unfolding opened placeFromOne
+placeFromOne-refuted claim = omega (arith, ap (λ (e : PlanEffect). e .answer .place) (one-rule placeFromOne claim [] []))
+
+pub writesRoot-refuted : PlanRefusals writesRoot → ⊥
+unfolding opened writesRoot
+writesRoot-refuted claim = omega (arith, ap (λ (e : PlanEffect). getD (e .words) 0 0) (one-rule writesRoot claim [] (0 ∷ [])))
+
+-- a bare root with no word
+pub placeBeside-refuted : PlanRefusals placeBeside → ⊥
+unfolding opened placeBeside
+placeBeside-refuted claim = omega (arith, ap (λ (e : PlanEffect). e .answer .place) (one-rule placeBeside claim bare []))
+
+pub rootUncounted-refuted : PlanRefusals rootUncounted → ⊥
+unfolding opened rootUncounted
+rootUncounted-refuted claim = omega (arith, ap (λ (e : PlanEffect). e .answer .nodes) (one-rule rootUncounted claim bare (0 ∷ [])))
+
+-- "R(H)" with one word: 10, and 1 in the word
+pub writesWithoutRoom-refuted : PlanRefusals writesWithoutRoom → ⊥
+unfolding opened addresses-opened writesWithoutRoom
+writesWithoutRoom-refuted claim =
+    omega (
+      arith,
+      ap (λ (e : PlanEffect). getD (e .words) 0 0)
+          (one-rule writesWithoutRoom claim (letterR ∷ opening ∷ letterH ∷ closing ∷ []) (0 ∷ [])),
+    )
+
+-- "R(R(H))": 1, 10, 101, and not 1, 101, 10
+pub routersLate-refuted : PlanRefusals routersLate → ⊥
+unfolding opened addresses-opened readFromBy withoutAddress closingAddress moveLate routersLate
+routersLate-refuted claim =
+    omega (
+      arith,
+      ap (λ (e : PlanEffect). getD (e .words) 1 0)
+          (one-rule routersLate claim (letterR ∷ opening ∷ letterR ∷ opening ∷ letterH ∷ closing ∷ closing ∷ []) (0 ∷ 0 ∷ 0 ∷ [])),
+    )
+
+-- ---- long texts
+
+-- a text that begins with a host is none
+no-text : (s : List ℕ) → IsText (letterH ∷ s) → ⊥
+unfolding move
+no-text s t = not-both (letterH ∷ s) 0 t (faultAt-stops (letterH ∷ s) 0 (unfold reading in readFrom-fault 0 start letterH s refl))
+
+-- 4,097 times "H": too many bytes, and not a fault
+pub grammarFirst-refuted : PlanRefusals grammarFirst → ⊥
+unfolding grammarFirst judged refusePlan reading move
+grammarFirst-refuted claim =
+    let s = replicate 4096 letterH in
+    let long : 4096 < suc (length s) = omega (arith, length-replicate 4096 letterH) in
+    let made = ap (λ (r : Reading). judged r [] .answer .refusal) (readFrom-fault 0 start letterH s refl) in
+    let right = claim .given (letterH ∷ s) [] 14 .1 (inl (long, refl)) in
+    omega arith
+
+-- 513 times "H": a fault, and not too many nodes
+pub nodesFirst-refuted : PlanRefusals nodesFirst → ⊥
+unfolding nodesFirst letters refusePlan
+nodesFirst-refuted claim =
+    let s = replicate 512 letterH in
+    omega (arith, claim .given (letterH ∷ s) [] 13 .1 (inr (λ l. omega (arith, length-replicate 512 letterH), inl (no-text s, refl))))
+
+-- ---- so many hosts
+
+hosts : ℕ → Items
+hosts zero = none
+hosts (suc k) = host (hosts k)
+
+-- among more hosts than there is room for one is refused
+hosts-refused : (k : ℕ) (n : Node) → Inner n → room n < count Host n + k → List·Memᴰ 3 (map refusalOf (answers n (hosts k)))
+unfolding answers hosts
+hosts-refused zero n inner h = absurd (omega (arith, count-le n (inner .good) (inner .noHost) Host))
+hosts-refused (suc k) n inner h =
+    ⊎-elim (λ e. first (sym e)) (λ e. later (hosts-refused k (childOf n Host .node) (inner-next Host inner) (fewer e))) (inner-refusal Host inner)
+  where
+    fewer : childOf n Host .refusal ≡ 0 → room (childOf n Host .node) < count Host (childOf n Host .node) + k
+    fewer e =
+        omega (
+          arith,
+          ap (count Host) (child-refusals .without n Host e),
+          count-raised Host n,
+          ap bitLength (gives-children .keepsAddress n Host),
+        )
+
+abbrev manyHosts : List ℕ
+manyHosts = planText (hosts 64)
+
+hosts-spelled : Spells manyHosts (hosts 64)
+unfolding hosts groupsOpen
+hosts-spelled = record { spelled = refl; within = omega arith }
+
+hosts-too-long : SomeTooLong (hosts 64)
+unfolding fresh count bitLength bits bitsIn lastBit
+hosts-too-long = hosts-refused 64 (fresh root) inner-root (omega arith)
+
+-- 64 hosts of the root and no words: the last address is too long
+roomFirst-hosts : roomFirst manyHosts [] ≡ refusePlan 10 0 []
+unfolding roomFirst planningBy judgedBy hosts planText itemsText items nodes
+roomFirst-hosts = rw (reading-spells manyHosts (hosts 64) hosts-spelled, length-hall (hosts 64))
+
+pub roomFirst-refuted : PlanRefusals roomFirst → ⊥
+unfolding refusePlan hosts planText itemsText items nodes
+roomFirst-refuted claim =
+    let right = only-end roomFirst claim manyHosts [] (tooLong (omega arith) (hosts 64) hosts-spelled (omega arith) hosts-too-long) in
+    omega (arith, ap (λ (e : PlanEffect). e .answer .refusal) (sym roomFirst-hosts ∙ right))
+
+-- ---- groups in groups
+
+nested : ℕ → Items
+nested zero = none
+nested (suc k) = router (nested k) none
+
+abbrev deep : List ℕ
+deep = planText (nested 64)
+
+deep-no-text : IsText deep → ⊥
+unfolding nested groupsOpen
+deep-no-text (plan, s) =
+    omega (arith, s .within, ap groupsOpen (planText-one plan (nested 64) (sym (s .spelled))))
+
+isWhole : Reading → Bool
+isWhole (whole given) = true
+isWhole (faultAt place) = false
+
+deep-whole : isWhole (readFromBy moveUnlimited 0 start deep) ≡ true
+unfolding nested planText itemsText isWhole readFromBy moveUnlimited move moveItem behind ended
+deep-whole = refl
+
+-- a list of addresses is never a fault
+listed-no-fault : (given words : List ℕ) → listed given words .answer .refusal ≡ 13 → ⊥
+unfolding listed refusePlan
+listed-no-fault given words = go (ltb mostNodes (length given)) (ltb 0 (missing given)) (ltb (length words) (length given))
+  where
+    effect : Bool → Bool → Bool → PlanEffect
+    effect m l r =
+        if m then refusePlan 14 0 words else if l then refusePlan 3 0 words else if r then refusePlan 10 0 words
+        else record { answer = record { refusal = 0; nodes = length given; place = 0 }; words = given ++ drop (length given) words }
+
+    go : (m l r : Bool) → effect m l r .answer .refusal ≡ 13 → ⊥
+    go true l r e = omega arith
+    go false true r e = omega arith
+    go false false true e = omega arith
+    go false false false e = omega arith
+
+whole-no-fault : (r : Reading) (words : List ℕ) → isWhole r ≡ true → judgedBy (moving moveUnlimited) r words .answer .refusal ≡ 13 → ⊥
+unfolding isWhole judgedBy
+whole-no-fault (whole given) words w e = listed-no-fault given words e
+whole-no-fault (faultAt place) words w e = let z : _≡_ {A = ℕ} 0 1 = cc in omega arith
+
+-- 65 groups in one another: a fault
+pub unlimited-refuted : PlanRefusals unlimited → ⊥
+unfolding unlimited planningBy nested planText itemsText
+unlimited-refuted claim =
+    whole-no-fault (readFromBy moveUnlimited 0 start deep) [] deep-whole
+    (claim .given deep [] 13 .1 (inr (λ l. omega arith, inl (deep-no-text, refl))))
