@@ -1,2 +1,3 @@
 -- The front page's lines, each taken from the record that carries it.
 mod Lines
+mod PlanLines

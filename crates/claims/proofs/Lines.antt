@@ -66,6 +66,7 @@ use Rattle.batch.proofs.Promises.{pasa-hop-promise, pasa-hop-asks-nothing, next
 use Rattle.pasa.specs.Children.{nodeOf, pasaNode, pasaChild}
 use Rattle.pasa.specs.Bytes.{pasaWritten, pasaRead, pasaAddress}
 use Rattle.pasa.specs.Paths.{pasaListed}
+use Rattle.pasa.specs.Plans.{pasaPlan}
 use Rattle.pasa.specs.Addresses.{hostAnswer}
 use Rattle.route.proofs.Words.{path-words}
 use Rattle.route.proofs.RefusalLaws.{path-refusals}
@@ -78,6 +79,10 @@ use Rattle.line.proofs.RefusalLaws.{line-refusals, answer-refusals}
 use Rattle.line.proofs.DecimalLaws.{decimal-reads-back}
 use Rattle.line.proofs.EdgeLaws.{edge}
 use Rattle.line.proofs.Promises.{answer-asks-nothing}
+use Rattle.plan.proofs.RefusalLaws.{plan-refusals}
+use Rattle.plan.proofs.OneRule.{one-rule}
+use Rattle.plan.proofs.WrongRules.{refusesAll-refuted as refusesAllPlans-refuted, grammarFirst-refuted, nodesFirst-refuted, roomFirst-refuted, placeFromOne-refuted, placeBeside-refuted, writesWithoutRoom-refuted, writesRoot-refuted, rootUncounted-refuted, unlimited-refuted, routersLate-refuted}
+use Rattle.plan.proofs.Promises.{read-asks-nothing as plan-read-asks-nothing}
 use Rattle.known.specs.Known.{table}
 use Rattle.known.proofs.Proved.{known-values}
 use Rattle.tree.specs.Tree.{Request, request, Tree, bareRoot, grow, grown, InTree, Walk, here, along}
@@ -88,7 +93,7 @@ use Rattle.tree.proofs.Growth.{sound-grown}
 use Rattle.tree.proofs.Theorem.{demand-3}
 use Rattle.tree.proofs.WrongChildren.{sameChild-refuted, sharedCount-refuted, limitOnParent-refuted}
 use Rattle.tree.proofs.WrongHops.{refusesEverything-refuted, parentToAll-refuted, leaps-refuted, namesNobody-refuted, hostKeeps-refuted, hostDelivers-refuted, rootAsHost-refuted, lowBits-refuted, beforeLastBit-refuted, oneCount-refuted}
-use Rattle.pasa.proofs.Promises.{node-of-promise as pasa-node-of-promise, node-of-asks-nothing as pasa-node-of-asks-nothing, fresh-promise as pasa-fresh-promise, child-router-promise as pasa-child-router-promise, child-host-promise as pasa-child-host-promise, next-hop-promise as pasa-next-hop-promise, packet-next-hop-promise as pasa-packet-next-hop-promise, next-hops-promise as pasa-next-hops-promise, header-write-promise as pasa-header-write-promise, header-read-promise as pasa-header-read-promise, ipv6-write-promise as pasa-ipv6-write-promise, ipv6-read-promise as pasa-ipv6-read-promise, path-promise as pasa-path-promise, fresh-asks-nothing as pasa-fresh-asks-nothing, child-router-asks-nothing as pasa-child-router-asks-nothing, child-host-asks-nothing as pasa-child-host-asks-nothing, next-hop-asks-nothing as pasa-next-hop-asks-nothing, packet-next-hop-asks-nothing as pasa-packet-next-hop-asks-nothing, next-hops-asks-nothing as pasa-next-hops-asks-nothing, header-write-asks-nothing as pasa-header-write-asks-nothing, header-read-asks-nothing as pasa-header-read-asks-nothing, ipv6-write-asks-nothing as pasa-ipv6-write-asks-nothing, ipv6-read-asks-nothing as pasa-ipv6-read-asks-nothing, path-asks-nothing as pasa-path-asks-nothing}
+use Rattle.pasa.proofs.Promises.{node-of-promise as pasa-node-of-promise, node-of-asks-nothing as pasa-node-of-asks-nothing, fresh-promise as pasa-fresh-promise, child-router-promise as pasa-child-router-promise, child-host-promise as pasa-child-host-promise, next-hop-promise as pasa-next-hop-promise, packet-next-hop-promise as pasa-packet-next-hop-promise, next-hops-promise as pasa-next-hops-promise, header-write-promise as pasa-header-write-promise, header-read-promise as pasa-header-read-promise, ipv6-write-promise as pasa-ipv6-write-promise, ipv6-read-promise as pasa-ipv6-read-promise, path-promise as pasa-path-promise, plan-read-promise as pasa-plan-read-promise, plan-read-asks-nothing as pasa-plan-read-asks-nothing, fresh-asks-nothing as pasa-fresh-asks-nothing, child-router-asks-nothing as pasa-child-router-asks-nothing, child-host-asks-nothing as pasa-child-host-asks-nothing, next-hop-asks-nothing as pasa-next-hop-asks-nothing, packet-next-hop-asks-nothing as pasa-packet-next-hop-asks-nothing, next-hops-asks-nothing as pasa-next-hops-asks-nothing, header-write-asks-nothing as pasa-header-write-asks-nothing, header-read-asks-nothing as pasa-header-read-asks-nothing, ipv6-write-asks-nothing as pasa-ipv6-write-asks-nothing, ipv6-read-asks-nothing as pasa-ipv6-read-asks-nothing, path-asks-nothing as pasa-path-asks-nothing}
 use Rattle.pasa.proofs.AddressPromises.{parent-promise as pasa-parent-promise, depth-promise as pasa-depth-promise, bit-length-promise as pasa-bit-length-promise, is-host-promise as pasa-is-host-promise, interface-promise as pasa-interface-promise, parent-asks-nothing as pasa-parent-asks-nothing, depth-asks-nothing as pasa-depth-asks-nothing, bit-length-asks-nothing as pasa-bit-length-asks-nothing, is-host-asks-nothing as pasa-is-host-asks-nothing, interface-asks-nothing as pasa-interface-asks-nothing}
 use Rattle.claims.specs.Addresses.{Addresses, Children}
 use Rattle.claims.specs.Demand1.{ExactlyWhen, NothingBeside, OnlyTheNamed}
@@ -97,7 +102,7 @@ use Rattle.claims.specs.Demand3.{treeOf, Growth, EveryList}
 use Rattle.claims.specs.NextHop.{HopAnswers, NextHop}
 use Rattle.claims.specs.Paths.{ThePath, exampleLine, exampleText, refusal11, hopsWord, binary, eachOnALine, TheLine}
 use Rattle.claims.specs.Structs.{Cases, OneAnswer, Fields}
-use Rattle.claims.specs.Excluded.{KnownRows, WrongNextHops, WrongChildren, WrongWritersAndReaders, HoldOfOurs}
+use Rattle.claims.specs.Excluded.{KnownRows, WrongNextHops, WrongChildren, WrongPlanRules, WrongWritersAndReaders, HoldOfOurs}
 use Rattle.claims.specs.Code.{AsksNothing, AnswersAsDefined}
 use Rattle.claims.specs.Exports.{ExportsAskNothing, ExportsAnswerAsDefined}
 
@@ -217,6 +222,7 @@ exactly-when = record {
   aFormBack = form-read-refusals .given;
   aPath = path-refusals .given;
   aLine = answer-refusals .given;
+  aPlan = plan-refusals .given;
 }
 
 shown : {r : HopAnswer} {k : ℕ} → r ≡ refusedHop k → (r .named ≡ 0) × (r .action ≡ stop)
@@ -234,6 +240,9 @@ nothing-beside = record {
   aFormBack = form-read-refusals .beside;
   aPath = path-refusals .beside;
   aLine = answer-refusals .beside;
+  aPlan = plan-refusals .beside;
+  aPlansPlace = plan-refusals .place;
+  noOtherPlace = plan-refusals .noPlace;
 }
 
 pub only-the-named : OnlyTheNamed
@@ -243,6 +252,7 @@ only-the-named = record {
   aForm = form-write-refusals .without;
   aPath = λ a d words e. path-refusals .without a d words e .1;
   aLine = answer-refusals .without;
+  aPlan = plan-refusals .without;
 }
 
 -- ---- demand 2
@@ -409,6 +419,7 @@ hold-of-ours = record {
   demand1Child = child-refusals;
   demand1Hop = hop-refusals;
   demand1Packet = packet-refusals;
+  demand1Plan = plan-refusals;
   demand2Header = header-round-trip;
   demand2Form = form-round-trip;
   demand3 = demand-3;
@@ -441,6 +452,22 @@ wrong-children = record {
   withOneTooMany = oneTooMany-refuted;
   shortOfTheLimit = shortOfLimit-refuted;
   withAnAddressBeside = addressBeside-refuted;
+}
+
+pub wrong-plan-rules : WrongPlanRules
+wrong-plan-rules = record {
+  oneRule = one-rule;
+  thatRefusesAll = refusesAllPlans-refuted;
+  withGrammarFirst = grammarFirst-refuted;
+  withNodesFirst = nodesFirst-refuted;
+  withRoomFirst = roomFirst-refuted;
+  withPlaceFromOne = placeFromOne-refuted;
+  withPlaceBeside = placeBeside-refuted;
+  thatWritesWithoutRoom = writesWithoutRoom-refuted;
+  thatWritesTheRoot = writesRoot-refuted;
+  withRootUncounted = rootUncounted-refuted;
+  unlimited = unlimited-refuted;
+  withRoutersLate = routersLate-refuted;
 }
 
 pub wrong-writers-and-readers : WrongWritersAndReaders
@@ -484,6 +511,7 @@ asks-nothing = record {
   formRead = form-read-asks-nothing;
   pathCall = path-asks-nothing;
   lineAnswer = answer-asks-nothing;
+  planRead = plan-read-asks-nothing;
   batchHop = pasa-hop-asks-nothing;
   batchNextHops = batch-next-hops-asks-nothing;
   pasaNodeOf = pasa-node-of-asks-nothing;
@@ -513,6 +541,7 @@ answers-as-defined = record {
   formRead = form-read-promise;
   pathCall = λ κs a d words words′ r h. h;
   lineAnswer = λ κs input out out′ r h. h;
+  planRead = λ κs text words words′ r h. h;
   batchHop = pasa-hop-promise;
   batchNextHops = batch-next-hops-promise;
   pasaNodeOf = pasa-node-of-promise;
@@ -533,6 +562,7 @@ exports-ask-nothing = record {
   pasaIpv6Write = pasa-ipv6-write-asks-nothing;
   pasaIpv6Read = pasa-ipv6-read-asks-nothing;
   pasaPath = pasa-path-asks-nothing;
+  pasaPlanRead = pasa-plan-read-asks-nothing;
   pasaParent = pasa-parent-asks-nothing;
   pasaDepth = pasa-depth-asks-nothing;
   pasaBitLength = pasa-bit-length-asks-nothing;
@@ -553,6 +583,7 @@ exports-answer-as-defined = record {
   pasaIpv6Write = pasa-ipv6-write-promise;
   pasaIpv6Read = pasa-ipv6-read-promise;
   pasaPath = pasa-path-promise;
+  pasaPlanRead = pasa-plan-read-promise;
   pasaParent = pasa-parent-promise;
   pasaDepth = pasa-depth-promise;
   pasaBitLength = pasa-bit-length-promise;
@@ -579,7 +610,7 @@ pub one-answer : OneAnswer
 one-answer = record { anAddress = one-made; aHeader = one-reading; aForm = one-formReading; aHop = one-hop }
 
 pub fields : Fields
-unfolding nodeOf pasaNode pasaChild pasaHop actionNumber pasaWritten pasaRead pasaAddress pasaListed hostAnswer
+unfolding nodeOf pasaNode pasaChild pasaHop actionNumber pasaWritten pasaRead pasaAddress pasaListed pasaPlan hostAnswer
 fields = record {
   taken = λ r. (refl, refl, refl);
   node = λ n. (refl, refl, refl);
@@ -590,6 +621,7 @@ fields = record {
   read = λ r. (refl, refl, refl);
   address = λ r. (refl, refl);
   listed = λ l. (refl, refl);
+  plan = λ p. (refl, refl, refl);
   isAHost = λ a e. rw e;
   isNoHost = λ a e. rw e;
   interfaceNumber = refl;

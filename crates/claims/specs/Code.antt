@@ -27,6 +27,8 @@ use Rattle.forward.specs.Forward.{hopAnswer, nextHop}
 use Rattle.packet.specs.Packet.{packetHop}
 use Rattle.route.specs.declared.Listed.{Listed}
 use Rattle.route.specs.Path.{listing}
+use Rattle.plan.specs.Plan.{planning}
+use Rattle.plan.specs.declared.Planned.{Planned}
 use Rattle.line.specs.Line.{answering}
 use Rattle.batch.specs.declared.PasaHop.{PasaHop}
 use Rattle.batch.specs.Exported.{pasaHop}
@@ -58,6 +60,7 @@ use Rattle.ipv6.proofs.write.Reads as form-write-reads
 use Rattle.ipv6.proofs.read.Reads as form-read-reads
 use Rattle.route.proofs.path.Reads as path-reads
 use Rattle.line.proofs.answer.Reads as line-reads
+use Rattle.plan.proofs.read.Reads as plan-reads
 
 -- what is lent: octets or words
 abbrev pub Slice : Type 0
@@ -86,6 +89,7 @@ pub record AsksNothing : Type 0 where
   pub formRead : (κs : Lfts 2) (prefix ipv6 : Slice) → form-read-reads.Asked κs (prefix, (ipv6, tt))
   pub pathCall : (κs : Lfts 1) (a d : Address) (words : Slice) → path-reads.Asked κs (a, (d, (words, tt)))
   pub lineAnswer : (κs : Lfts 2) (input out : Slice) → line-reads.Asked κs (input, (out, tt))
+  pub planRead : (κs : Lfts 2) (text words : Slice) → plan-reads.Asked κs (text, (words, tt))
   pub batchHop : (h : Hop) → pasa-hop-reads.Asked tt (h, tt)
   pub batchNextHops : (κs : Lfts 4) (n : Node) (ds nodes actions refusals : Slice)
       → next-hops-reads.Asked κs (n, (ds, (nodes, (actions, (refusals, tt)))))
@@ -125,6 +129,8 @@ pub record AnswersAsDefined : Type 0 where
       → (r ≡ listing (a .number) (d .number) (now words) .answer) × (now words′ ≡ listing (a .number) (d .number) (now words) .words)
   pub lineAnswer : (κs : Lfts 2) (input out out′ : Slice) (r : Written) → line-reads.Learnt κs (input, (out, tt)) r (input, (out′, tt))
       → (r ≡ answering (now input) (now out) .answer) × (now out′ ≡ answering (now input) (now out) .buffer)
+  pub planRead : (κs : Lfts 2) (text words words′ : Slice) (r : Planned) → plan-reads.Learnt κs (text, (words, tt)) r (text, (words′, tt))
+      → (r ≡ planning (now text) (now words) .answer) × (now words′ ≡ planning (now text) (now words) .words)
   pub batchHop : (h : Hop) (r : PasaHop) → pasa-hop-reads.Learnt tt (h, tt) r (h, tt) → r ≡ pasaHop (hopAnswer h)
   pub batchNextHops : (κs : Lfts 4) (n : Node) (ds nodes actions refusals nodes′ actions′ refusals′ : Slice) (r : ℕ)
       → next-hops-reads.Learnt κs (n, (ds, (nodes, (actions, (refusals, tt))))) r (n, (ds, (nodes′, (actions′, (refusals′, tt)))))

@@ -4,7 +4,7 @@
 use Prim.Native.Nat.{ℕ, _+_, _-_, _^_, _<_, _≤_}
 use mathlib.Core.Path.{_≡_}
 use mathlib.Core.Logic.{_⊎_}
-use mathlib.Core.List.{List, _++_}
+use mathlib.Core.List.{List, _++_, map, List·Memᴰ}
 use lib.ListN.{length, take, drop, getD, replicate}
 use Rattle.address.specs.Order.{done, _when_otherwise_, _then_, GivenExactly}
 use Rattle.address.specs.Address.{made, bitLength}
@@ -14,7 +14,7 @@ use Rattle.octets.specs.Octets.{AreOctets}
 use Rattle.header.specs.Header.{IsSize, header, writing, reading}
 use Rattle.header.specs.Refusals.{readingOrder}
 use Rattle.ipv6.specs.Form.{form, formWriting, formReading}
-use Rattle.node.specs.Node.{addressIn, count, childOf}
+use Rattle.node.specs.Node.{addressIn, fresh, count, childOf}
 use Rattle.node.specs.Refusals.{IsBad}
 use Rattle.node.specs.declared.Node.{Node}
 use Rattle.forward.specs.Forward.{stop, nextHop}
@@ -22,6 +22,9 @@ use Rattle.forward.specs.Refusals.{ChildNotGiven}
 use Rattle.packet.specs.Packet.{packetHop}
 use Rattle.route.specs.Path.{path, listing}
 use Rattle.line.specs.Line.{outputText, answering}
+use Rattle.plan.specs.Grammar.{Items, Spells, IsText, Stops}
+use Rattle.plan.specs.Hall.{refusalOf, answers, hall, nodes}
+use Rattle.plan.specs.Plan.{planning}
 
 -- "is given exactly when that document says"
 pub record ExactlyWhen : Type 0 where
@@ -99,6 +102,17 @@ pub record ExactlyWhen : Type 0 where
       ) (listing a d words .answer .refusal)
   -- the path program's work: 10 where the lent output is too short; 11 is no number here but its text (Paths)
   pub aLine : (input out : List ℕ) → GivenExactly (10 when length out < length (outputText input) otherwise done) (answering input out .answer .refusal)
+  -- request One, "Here and below, new refusals, conditions and orders join those of document 01": "Text over 4,096 bytes: 14. Then a text outside
+  -- the grammar (a 65th open group counts): 13 .. Then over 512 nodes, the root counted: 14. Then an address too long: 3. Then no room: 10."
+  pub aPlan : (text words : List ℕ)
+      → GivenExactly (
+      14 when 4096 < length text
+      otherwise 13 when (IsText text → ⊥)
+      otherwise 14 when ((plan : Items) × Spells text plan × (512 < nodes plan))
+      otherwise 3 when ((plan : Items) × Spells text plan × List·Memᴰ 3 (map refusalOf (answers (fresh 1) plan)))
+      otherwise 10 when ((plan : Items) × Spells text plan × (length words < nodes plan))
+      otherwise done
+      ) (planning text words .answer .refusal)
 
 -- "With any refusal the address, place, hop count and every other number returned beside its own are 0, a returned record is the one handed in,
 -- and no byte or word lent is changed."
@@ -117,6 +131,12 @@ pub record NothingBeside : Type 0 where
       → (listing a d words .answer .hops ≡ 0) × (listing a d words .words ≡ words)
   pub aLine : (input out : List ℕ) → (answering input out .answer .refusal ≡ 0 → ⊥)
       → (answering input out .answer .count ≡ 0) × (answering input out .buffer ≡ out)
+  -- of a plan: "13, with the place of the first byte with which the text stops being the start of any text of the grammar, or the text's length if
+  -- it ends early .. This place amends document 01's rule on refusals."
+  pub aPlan : (text words : List ℕ) → (planning text words .answer .refusal ≡ 0 → ⊥)
+      → (planning text words .answer .nodes ≡ 0) × (planning text words .words ≡ words)
+  pub aPlansPlace : (text words : List ℕ) → planning text words .answer .refusal ≡ 13 → Stops text (planning text words .answer .place)
+  pub noOtherPlace : (text words : List ℕ) → (planning text words .answer .refusal ≡ 13 → ⊥) → planning text words .answer .place ≡ 0
 
 -- "On success only the words or octets named are written.": they stand in front, what is lent goes on behind them as it was
 pub record OnlyTheNamed : Type 0 where
@@ -132,3 +152,7 @@ pub record OnlyTheNamed : Type 0 where
   pub aLine : (input out : List ℕ) → answering input out .answer .refusal ≡ 0
       → (answering input out .answer .count ≡ length (outputText input))
       × (answering input out .buffer ≡ outputText input ++ drop (length (outputText input)) out)
+  -- the plan's addresses: "in that order, the root first, go into a lent list of 64-bit words, and the answer gives their number"
+  pub aPlan : (text words : List ℕ) → planning text words .answer .refusal ≡ 0
+      → (plan : Items) × Spells text plan
+      × ((planning text words .answer .nodes ≡ nodes plan) × (planning text words .words ≡ hall plan ++ drop (nodes plan) words))

@@ -1,6 +1,7 @@
 -- The known values of document 01 that are marked P, and the wrong rules that it names, and some more: each is refuted through the claim that
 -- excludes it.
 use mathlib.Core.Path.{_≡_}
+use Prim.Native.Nat.{ℕ}
 use mathlib.Core.List.{List}
 use lib.ListN.{length}
 use Rattle.header.specs.Header.{writing, reading}
@@ -20,6 +21,9 @@ use Rattle.forward.specs.WrongRules.{zeroFirst}
 use Rattle.packet.specs.Packet.{packetHop}
 use Rattle.packet.specs.Refusals.{PacketRefusals}
 use Rattle.packet.specs.WrongRules.{readingFirst}
+use Rattle.plan.specs.Plan.{planning}
+use Rattle.plan.specs.Refusals.{PlanRefusals}
+use Rattle.plan.specs.WrongRules.{PlanRule, refusesAll as refusesAllPlans, grammarFirst, nodesFirst, roomFirst, placeFromOne, placeBeside, writesWithoutRoom, writesRoot, rootUncounted, unlimited, routersLate}
 use Rattle.known.specs.Known.{AllHold, table}
 use Rattle.tree.specs.Tree.{Request, ChildRule}
 use Rattle.tree.specs.Way.{HopRule}
@@ -38,6 +42,7 @@ pub record HoldOfOurs : Type 0 where
   pub demand1Child : ChildRefusals childOf
   pub demand1Hop : HopRefusals nextHop
   pub demand1Packet : PacketRefusals packetHop
+  pub demand1Plan : PlanRefusals planning
   pub demand2Header : HeaderRoundTrip writing reading
   pub demand2Form : FormRoundTrip formWriting formReading
   pub demand3 : (rs : List Request) → Demand3 childOf packetHop rs
@@ -84,6 +89,28 @@ pub record WrongChildren : Type 0 where
   pub withOneTooMany : ChildRefusals oneTooMany → ⊥
   pub shortOfTheLimit : ChildRefusals shortOfLimit → ⊥
   pub withAnAddressBeside : ChildRefusals addressBeside → ⊥
+
+-- demand 1 of a plan leaves no choice, so whatever answers otherwise anywhere is excluded
+pub record WrongPlanRules : Type 0 where
+  pub oneRule : (rule : PlanRule) → PlanRefusals rule → (text words : List ℕ) → rule text words ≡ planning text words
+  -- "One that refuses everything"
+  pub thatRefusesAll : PlanRefusals refusesAllPlans → ⊥
+  -- 13 before the first 14; the second 14 before 13; 10 before 3
+  pub withGrammarFirst : PlanRefusals grammarFirst → ⊥
+  pub withNodesFirst : PlanRefusals nodesFirst → ⊥
+  pub withRoomFirst : PlanRefusals roomFirst → ⊥
+  -- a place counted from 1; a place beside another refusal
+  pub withPlaceFromOne : PlanRefusals placeFromOne → ⊥
+  pub withPlaceBeside : PlanRefusals placeBeside → ⊥
+  -- words written in a refusal: without room, and before the text is read
+  pub thatWritesWithoutRoom : PlanRefusals writesWithoutRoom → ⊥
+  pub thatWritesTheRoot : PlanRefusals writesRoot → ⊥
+  -- "the root counted": without it
+  pub withRootUncounted : PlanRefusals rootUncounted → ⊥
+  -- "a 65th open group counts": it does not
+  pub unlimited : PlanRefusals unlimited → ⊥
+  -- "a router before what its group holds": behind it
+  pub withRoutersLate : PlanRefusals routersLate → ⊥
 
 pub record WrongWritersAndReaders : Type 0 where
   -- "One that writes no header yet says done"

@@ -11,11 +11,13 @@ use Rattle.ipv6.specs.Form.{formWriting, formReading}
 use Rattle.forward.specs.Forward.{nextHop}
 use Rattle.packet.specs.Packet.{packetHop}
 use Rattle.route.specs.Path.{listing}
+use Rattle.plan.specs.Plan.{planning}
 use Rattle.claims.specs.Code.{Slice}
 use Rattle.pasa.specs.declared.bytes.PasaWritten.{PasaWritten}
 use Rattle.pasa.specs.declared.bytes.PasaRead.{PasaRead}
 use Rattle.pasa.specs.declared.bytes.PasaAddress.{PasaAddress}
 use Rattle.pasa.specs.declared.paths.PasaListed.{PasaListed}
+use Rattle.pasa.specs.declared.plans.PasaPlan.{PasaPlan}
 use Rattle.pasa.specs.declared.children.PasaNode.{PasaNode}
 use Rattle.pasa.specs.declared.children.PasaChild.{PasaChild}
 use Rattle.pasa.specs.Children.{nodeOf, pasaNode, pasaChild}
@@ -24,6 +26,7 @@ use Rattle.batch.specs.Exported.{pasaHop}
 use Rattle.batch.specs.Batch.{BatchEffect, nextHops}
 use Rattle.pasa.specs.Bytes.{pasaWritten, pasaRead, pasaAddress}
 use Rattle.pasa.specs.Paths.{pasaListed}
+use Rattle.pasa.specs.Plans.{pasaPlan}
 use Rattle.pasa.proofs.children.pasa_fresh.Reads as fresh-reads
 use Rattle.pasa.proofs.children.pasa_child_router.Reads as child-router-reads
 use Rattle.pasa.proofs.children.pasa_child_host.Reads as child-host-reads
@@ -35,6 +38,7 @@ use Rattle.pasa.proofs.bytes.pasa_header_read.Reads as header-read-reads
 use Rattle.pasa.proofs.bytes.pasa_ipv6_write.Reads as ipv6-write-reads
 use Rattle.pasa.proofs.bytes.pasa_ipv6_read.Reads as ipv6-read-reads
 use Rattle.pasa.proofs.paths.pasa_path.Reads as path-reads
+use Rattle.pasa.proofs.plans.pasa_plan_read.Reads as plan-read-reads
 use Rattle.address.specs.Address.{parent, depth, bitLength}
 use Rattle.pasa.specs.Addresses.{hostAnswer, interface}
 use Rattle.pasa.proofs.addresses.pasa_parent.Reads as parent-reads
@@ -56,6 +60,7 @@ pub record ExportsAskNothing : Type 0 where
   pub pasaIpv6Write : (κs : Lfts 2) (prefix : Slice) (a : ℕ) (out : Slice) → ipv6-write-reads.Asked κs (prefix, (a, (out, tt)))
   pub pasaIpv6Read : (κs : Lfts 2) (prefix ipv6 : Slice) → ipv6-read-reads.Asked κs (prefix, (ipv6, tt))
   pub pasaPath : (κs : Lfts 1) (a d : ℕ) (words : Slice) → path-reads.Asked κs (a, (d, (words, tt)))
+  pub pasaPlanRead : (κs : Lfts 2) (text words : Slice) → plan-read-reads.Asked κs (text, (words, tt))
   pub pasaParent : (a : ℕ) → parent-reads.Asked tt (a, tt)
   pub pasaDepth : (a : ℕ) → depth-reads.Asked tt (a, tt)
   pub pasaBitLength : (a : ℕ) → bit-length-reads.Asked tt (a, tt)
@@ -89,6 +94,9 @@ pub record ExportsAnswerAsDefined : Type 0 where
   pub pasaPath : (κs : Lfts 1) (a d : ℕ) (words last : Slice) (r : PasaListed)
       → path-reads.Learnt κs (a, (d, (words, tt))) r (a, (d, (last, tt)))
       → (r ≡ pasaListed (listing a d (now words) .answer)) × (now last ≡ listing a d (now words) .words)
+  pub pasaPlanRead : (κs : Lfts 2) (text words last : Slice) (r : PasaPlan)
+      → plan-read-reads.Learnt κs (text, (words, tt)) r (text, (last, tt))
+      → (r ≡ pasaPlan (planning (now text) (now words) .answer)) × (now last ≡ planning (now text) (now words) .words)
   pub pasaParent : (a r : ℕ) → parent-reads.Learnt tt (a, tt) r (a, tt) → r ≡ parent a
   pub pasaDepth : (a r : ℕ) → depth-reads.Learnt tt (a, tt) r (a, tt) → r ≡ depth a
   pub pasaBitLength : (a r : ℕ) → bit-length-reads.Learnt tt (a, tt) r (a, tt) → r ≡ bitLength a

@@ -12,6 +12,8 @@ pub mod Demand2
 pub mod Demand3
 -- the path between two addresses, and the path program's line and text
 pub mod Paths
+-- request One: a hall's plan, its text and its tree
+pub mod Plans
 -- the known values, and the wrong rules that are excluded
 pub mod Excluded
 -- what the code promises is what the claims speak of, and no function asks anything

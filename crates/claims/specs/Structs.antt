@@ -18,11 +18,13 @@ use Rattle.forward.specs.declared.Hop.{Hop}
 use Rattle.forward.specs.declared.Hop.the-variants.{Deliver, Parent, Child, Refused}
 use Rattle.forward.specs.Forward.{deliver, toParent, toChild, stop, HopAnswer, hopAnswer}
 use Rattle.route.specs.declared.Listed.{Listed}
+use Rattle.plan.specs.declared.Planned.{Planned}
 use Rattle.batch.specs.Exported.{actionNumber, pasaHop}
 use Rattle.pasa.specs.declared.children.PasaNode.{PasaNode}
 use Rattle.pasa.specs.Children.{nodeOf, pasaNode, pasaChild}
 use Rattle.pasa.specs.Bytes.{pasaWritten, pasaRead, pasaAddress}
 use Rattle.pasa.specs.Paths.{pasaListed}
+use Rattle.pasa.specs.Plans.{pasaPlan}
 use Rattle.pasa.specs.Addresses.{hostAnswer, interface}
 
 -- "For an answer that is an enum, a definition gives this paper's number and values for each of its cases."
@@ -54,6 +56,7 @@ pub record Fields : Type 0 where
   pub read : (r : HeaderAnswer) → (pasaRead r .address ≡ r .address) × (pasaRead r .place ≡ r .place) × (pasaRead r .refusal ≡ r .refusal)
   pub address : (r : AddressAnswer) → (pasaAddress r .address ≡ r .address) × (pasaAddress r .refusal ≡ r .refusal)
   pub listed : (l : Listed) → (pasaListed l .hops ≡ l .hops) × (pasaListed l .refusal ≡ l .refusal)
+  pub plan : (p : Planned) → (pasaPlan p .nodes ≡ p .nodes) × (pasaPlan p .place ≡ p .place) × (pasaPlan p .refusal ≡ p .refusal)
   pub isAHost : (a : ℕ) → isHost a ≡ true → hostAnswer a ≡ 1
   pub isNoHost : (a : ℕ) → isHost a ≡ false → hostAnswer a ≡ 0
   pub interfaceNumber : interface ≡ 1
