@@ -2,7 +2,8 @@
 use pasa::Address;
 use std::io::{self, Write};
 
-fn kind(address: Address) -> &'static str {
+/// What an address is by itself.
+pub fn kind(address: Address) -> &'static str {
     if address == Address::ROOT {
         "root"
     } else if address.is_host() {
