@@ -161,7 +161,7 @@ static void plan_into(const uint8_t *text, size_t length, size_t room)
     }
 }
 
-/* With room for all nodes and none to spare, and with one word less, where each R and H is one. */
+/* With room for all nodes and some to spare, with none to spare, and with one word less, where each R and H is one. */
 static void plan(const uint8_t *text, size_t length)
 {
     size_t nodes = 0;
@@ -170,20 +170,24 @@ static void plan(const uint8_t *text, size_t length)
             nodes++;
     if (nodes > PASA_PLAN_NODES)
         nodes = PASA_PLAN_NODES;
+    plan_into(text, length, nodes + 2);
     plan_into(text, length, nodes);
     plan_into(text, length, nodes > 0 ? nodes - 1 : 0);
 }
 
-/* Each octet spells a piece of a plan, and how often: so a few octets reach the limits, which lie beyond the length of the inputs. */
+/* Each octet spells a piece of a plan, and how often: so a few octets reach the limits, which lie beyond the length of the inputs. The last kind
+ * of piece is no part of a plan, but much like one. */
 static void spelled_plan(const uint8_t *octets, size_t count)
 {
-    static const char *const pieces[8] = {"R(", "H", ")", "R()", "R(H)", "R", "(", "x"};
+    static const char *const pieces[7] = {"R(", "H", ")", "R()", "R(H)", "R", "("};
+    static const char *const wrong[8] = {"x", "\n", "\r\n", " ", "r", "h", "\xC8", "[]"};
     uint8_t text[TEXT];
     size_t length = 0;
     for (size_t i = 0; i < count; i++) {
-        const char *piece = pieces[octets[i] % 8];
+        unsigned kind = octets[i] % 8, number = octets[i] / 8;
+        const char *piece = kind < 7 ? pieces[kind] : wrong[number % 8];
         size_t size = strlen(piece);
-        size_t times = octets[i] % 8 < 5 ? octets[i] / 8 + 1u : 1;
+        size_t times = kind < 5 ? number + 1 : 1;
         for (; times > 0 && length + size <= TEXT; times--) {
             memcpy(text + length, piece, size);
             length += size;

@@ -6,6 +6,9 @@ use pasa::sys;
 
 const LETTERS: [u8; 5] = *b"RH()x";
 
+/// No letters of a plan: what a file may have at its end, small letters, other brackets, and letters with another bit.
+const ALIKE: [u8; 12] = *b"\n\r \0rh[]SI\xD2\xC8";
+
 /// The room for words, more than any plan has nodes; and what they hold before.
 const WORDS: [u64; 520] = [0x5555_5555_5555_5555; 520];
 
@@ -156,9 +159,11 @@ impl Random {
         }
     }
 
+    /// A letter of a plan, one that is much like those, or any octet.
     fn letter(&mut self) -> u8 {
         match self.below(16) {
             0 => self.octet(),
+            1..=4 => ALIKE[self.below(ALIKE.len())],
             _ => LETTERS[self.below(LETTERS.len())],
         }
     }
