@@ -91,7 +91,7 @@ impl Random {
             // more octets than needed, or a size that is not allowed
             3 => {
                 let size = self.below(33) as u8;
-                packet[1] = 0x80 | size.wrapping_sub(1) % 32;
+                packet[1] = 0x80 | (size.wrapping_sub(1) % 32);
                 let zeros = self.below(8);
                 packet.splice(3..3, std::iter::repeat(0).take(zeros));
             }
@@ -102,7 +102,7 @@ impl Random {
                     *octet = right;
                 }
                 if count > 1 {
-                    packet[1] = 0x80 | self.octet() % 10;
+                    packet[1] = 0x80 | (self.octet() % 10);
                 }
             }
             _ => (),
