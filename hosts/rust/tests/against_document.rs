@@ -434,7 +434,7 @@ fn paths_of_any_addresses() -> Seen {
     seen
 }
 
-/// The longest of the tests, and the last to start: so on both cores.
+/// The longest of the tests, and one of the last to start: so on both cores.
 #[test]
 fn paths() {
     let small = std::thread::spawn(paths_of_small_addresses);

@@ -220,6 +220,7 @@ fn random_texts() -> Met {
     met
 }
 
+/// On both cores, as the paths are.
 #[test]
 fn plans() {
     let every = std::thread::spawn(every_short_text);

@@ -6,13 +6,14 @@
 //! one makes it wide, no text meets another, and a row of the picture is a line of `hall plan`.
 use pasa::Address;
 
-const MARGIN: usize = 24;
+/// Left free, and right, and below.
+pub const MARGIN: usize = 24;
 
 /// The height of a row, and what a step of depth goes to the right.
 const ROW: usize = 20;
 const STEP: usize = 26;
 
-/// No digit of a monospaced font in the picture's size is wider.
+/// The digits of the usual monospaced fonts are no wider in the picture's size.
 const DIGIT: usize = 8;
 
 /// From the middle of a node's sign to its address.
@@ -68,10 +69,6 @@ pub fn number_x(depth: usize, digits: usize) -> Option<usize> {
 
 fn end_x(depth: usize, digits: usize) -> usize {
     number_x(depth, digits).map_or(address_x(depth) + DIGIT * digits, |x| x + NUMBER)
-}
-
-pub fn left() -> usize {
-    MARGIN
 }
 
 /// The lowest point that something stands at.

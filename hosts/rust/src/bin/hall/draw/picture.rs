@@ -1,7 +1,7 @@
 //! The picture as an SVG document: plain shapes and text with their colours as attributes, on a ground of its own, so that every viewer shows the
 //! same, a dark one too. No script, no style sheet, no font and no other file is needed.
-use super::layout::{self, BASELINE, BLOCK};
-use crate::describe::kind;
+use super::layout::{self, BASELINE, BLOCK, MARGIN};
+use crate::describe::Kind;
 use pasa::Address;
 use std::collections::HashMap;
 use std::io::{self, Write};
@@ -11,9 +11,6 @@ const INK: &str = "#0f172a";
 const PALE: &str = "#64748b";
 const LINK: &str = "#94a3b8";
 const LEVEL: &str = "#cbd5e1";
-
-/// Half of the height of a node's sign.
-const SIGN: usize = 6;
 
 /// Where a link turns from its parent's column to the child's row it has this radius.
 const TURN: usize = 5;
@@ -27,6 +24,7 @@ pub fn draw(nodes: &[Address], out: &mut dyn Write) -> io::Result<()> {
     writeln!(out, "<title>{}</title>", title(nodes))?;
     writeln!(out, r#"<rect width="{width}" height="{height}" fill="{GROUND}"/>"#)?;
     head(nodes, out)?;
+    legend(out)?;
     levels(nodes, out)?;
     links(nodes, out)?;
     rulers(nodes, out)?;
@@ -36,16 +34,16 @@ pub fn draw(nodes: &[Address], out: &mut dyn Write) -> io::Result<()> {
     writeln!(out, "</svg>")
 }
 
-fn count(nodes: &[Address], name: &str) -> usize {
-    nodes.iter().filter(|address| kind(**address) == name).count()
+fn count(nodes: &[Address], kind: Kind) -> usize {
+    nodes.iter().filter(|address| Kind::of(**address) == kind).count()
 }
 
 fn deepest(nodes: &[Address]) -> usize {
     nodes.iter().map(|address| address.depth() as usize).max().unwrap_or(0)
 }
 
-fn many(count: usize, name: &str) -> String {
-    format!("{count} {name}{}", if count == 1 { "" } else { "s" })
+fn many(count: usize, what: &str) -> String {
+    format!("{count} {what}{}", if count == 1 { "" } else { "s" })
 }
 
 fn title(nodes: &[Address]) -> String {
@@ -53,25 +51,32 @@ fn title(nodes: &[Address]) -> String {
 }
 
 fn counts(nodes: &[Address]) -> String {
-    let (routers, hosts) = (count(nodes, "router"), count(nodes, "host"));
+    let (routers, hosts) = (count(nodes, Kind::Router), count(nodes, Kind::Host));
     format!("the root, {} and {}, down to depth {}", many(routers, "router"), many(hosts, "host"), deepest(nodes))
 }
 
-/// The title, the counts and the legend.
+/// The title and the counts.
 fn head(nodes: &[Address], out: &mut dyn Write) -> io::Result<()> {
-    let left = layout::left();
-    writeln!(out, r#"<text x="{left}" y="36" font-family="sans-serif" font-size="20" font-weight="bold">{}</text>"#, title(nodes))?;
-    writeln!(out, r#"<text x="{left}" y="58" font-family="sans-serif">{}</text>"#, counts(nodes))?;
     writeln!(out, r#"<g font-family="sans-serif">"#)?;
-    for (name, x) in [("root", left + SIGN), ("router", left + 70), ("host", left + 146)] {
-        sign(name, x, 80, out)?;
-        writeln!(out, r#"<text x="{}" y="{}">{name}</text>"#, x + 2 * SIGN, 80 + BASELINE)?;
+    writeln!(out, r#"<text x="{MARGIN}" y="36" font-size="20" font-weight="bold">{}</text>"#, title(nodes))?;
+    writeln!(out, r#"<text x="{MARGIN}" y="58">{}</text>"#, counts(nodes))?;
+    writeln!(out, "</g>")
+}
+
+/// What the signs and the two kinds of digits mean.
+fn legend(out: &mut dyn Write) -> io::Result<()> {
+    let y = 80;
+    let baseline = y + BASELINE;
+    writeln!(out, r#"<g font-family="sans-serif">"#)?;
+    for (kind, x) in [(Kind::Root, MARGIN + 6), (Kind::Router, MARGIN + 70), (Kind::Host, MARGIN + 146)] {
+        sign(kind, x, y, out)?;
+        writeln!(out, r#"<text x="{}" y="{baseline}">{kind}</text>"#, x + 12)?;
     }
-    let x = left + 216;
-    write!(out, r#"<text x="{x}" y="{}" font-family="monospace">"#, 80 + BASELINE)?;
+    let x = MARGIN + 216;
+    write!(out, r#"<text x="{x}" y="{baseline}" font-family="monospace">"#)?;
     digits("10", "110", out)?;
-    writeln!(out, r#"</text>"#)?;
-    writeln!(out, r#"<text x="{}" y="{}">an address: the parent's bits, then the last step</text>"#, x + 48, 80 + BASELINE)?;
+    writeln!(out, "</text>")?;
+    writeln!(out, r#"<text x="{}" y="{baseline}">an address: the parent's bits, then the last step</text>"#, x + 48)?;
     writeln!(out, "</g>")
 }
 
@@ -91,7 +96,7 @@ fn rulers(nodes: &[Address], out: &mut dyn Write) -> io::Result<()> {
     writeln!(out, r#"<g font-family="sans-serif" font-size="11" fill="{PALE}" text-anchor="middle">"#)?;
     for block in 0..nodes.len().div_ceil(BLOCK) {
         let y = layout::ruler_y(block);
-        writeln!(out, r#"<text x="{}" y="{}" text-anchor="start">depth</text>"#, layout::left(), y + BASELINE)?;
+        writeln!(out, r#"<text x="{MARGIN}" y="{}" text-anchor="start">depth</text>"#, y + BASELINE)?;
         for depth in 0..=deepest(nodes) {
             let x = layout::x(depth);
             write!(out, r#"<rect x="{}" y="{}" width="18" height="14" fill="{GROUND}"/>"#, x - 9, y - 7)?;
@@ -116,11 +121,11 @@ fn links(nodes: &[Address], out: &mut dyn Write) -> io::Result<()> {
 }
 
 /// The sign of a kind: each has a shape, a colour and a filling of its own.
-fn sign(kind: &str, x: usize, y: usize, out: &mut dyn Write) -> io::Result<()> {
+fn sign(kind: Kind, x: usize, y: usize, out: &mut dyn Write) -> io::Result<()> {
     match kind {
-        "root" => writeln!(out, r##"<path d="M{} {y}L{x} {}L{} {y}L{x} {}Z" fill="#b45309"/>"##, x - 8, y - 8, x + 8, y + 8),
-        "router" => writeln!(out, r##"<rect x="{}" y="{}" width="12" height="12" rx="2" fill="#1d4ed8"/>"##, x - SIGN, y - SIGN),
-        _ => writeln!(out, r##"<circle cx="{x}" cy="{y}" r="5" fill="{GROUND}" stroke="#047857" stroke-width="2"/>"##),
+        Kind::Root => writeln!(out, r##"<path d="M{} {y}L{x} {}L{} {y}L{x} {}Z" fill="#b45309"/>"##, x - 8, y - 8, x + 8, y + 8),
+        Kind::Router => writeln!(out, r##"<rect x="{}" y="{}" width="12" height="12" rx="2" fill="#1d4ed8"/>"##, x - 6, y - 6),
+        Kind::Host => writeln!(out, r##"<circle cx="{x}" cy="{y}" r="5" fill="{GROUND}" stroke="#047857" stroke-width="2"/>"##),
     }
 }
 
@@ -134,18 +139,18 @@ fn digits(parent: &str, step: &str, out: &mut dyn Write) -> io::Result<()> {
 
 /// A node's sign and address, and what a browser shows under the pointer.
 fn node(address: Address, y: usize, out: &mut dyn Write) -> io::Result<()> {
-    let depth = address.depth() as usize;
-    let whole = address.to_string();
-    let parent = address.parent().map_or(String::new(), |parent| parent.to_string());
-    let parent_shown = if parent.is_empty() { "none" } else { &parent };
-    writeln!(out, r#"<g><title>{whole}: {}, depth {depth}, parent {parent_shown}</title>"#, kind(address))?;
-    sign(kind(address), layout::x(depth), y, out)?;
-    write!(out, r#"<text x="{}" y="{}">"#, layout::address_x(depth), y + BASELINE)?;
-    digits(&parent, &whole[parent.len()..], out)?;
+    let (kind, depth) = (Kind::of(address), address.depth() as usize);
+    let (whole, parent) = (address.to_string(), address.parent().map(|parent| parent.to_string()));
+    writeln!(out, "<g><title>{whole}: {kind}, depth {depth}, parent {}</title>", parent.as_deref().unwrap_or("none"))?;
+    sign(kind, layout::x(depth), y, out)?;
+    let baseline = y + BASELINE;
+    let step = parent.as_ref().map_or(0, String::len);
+    write!(out, r#"<text x="{}" y="{baseline}">"#, layout::address_x(depth))?;
+    digits(&whole[..step], &whole[step..], out)?;
     write!(out, "</text>")?;
     if let Some(x) = layout::number_x(depth, whole.len()) {
-        let y = y + BASELINE;
-        write!(out, r#"<text x="{x}" y="{y}" font-family="sans-serif" font-size="11" fill="{PALE}">{} bits</text>"#, whole.len())?;
+        let bits = whole.len();
+        write!(out, r#"<text x="{x}" y="{baseline}" font-family="sans-serif" font-size="11" fill="{PALE}">{bits} bits</text>"#)?;
     }
     writeln!(out, "</g>")
 }

@@ -2,7 +2,7 @@
 mod fault;
 
 use crate::commands::{wrong, Command};
-use crate::describe::kind;
+use crate::describe::Kind;
 use crate::{input, Done, Failure};
 use pasa::{Address, PlanRefusal, PLAN_BYTES, PLAN_NODES};
 use std::ffi::{OsStr, OsString};
@@ -77,7 +77,7 @@ fn run(words: &[OsString], out: &mut dyn Write) -> Done {
     writeln!(out, "nodes {}", nodes.len())?;
     for address in nodes {
         let digits = address.to_string();
-        writeln!(out, "{digits:widest$} {:6} depth {}", kind(address), address.depth())?;
+        writeln!(out, "{digits:widest$} {:6} depth {}", Kind::of(address), address.depth())?;
     }
     Ok(())
 }
