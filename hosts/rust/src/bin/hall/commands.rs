@@ -53,7 +53,7 @@ fn asks_for_help(word: &OsString) -> bool {
 }
 
 fn list(out: &mut dyn Write) -> Done {
-    write!(out, "hall: addresses, paths, packets and trees, by proved functions\n\n")?;
+    write!(out, "hall: addresses, paths, packets, plans and trees, by proved functions\n\n")?;
     for command in &COMMANDS {
         write!(out, "{}", command.list)?;
     }
