@@ -99,8 +99,8 @@ fn addresses(text: &[u8]) -> Vec<Bits> {
     given
 }
 
-/// "Text over 4,096 bytes: 14. Then a text outside the grammar: 13 .. Then over 512 nodes, the root counted: 14. Then an address too long: 3. Then
-/// no room: 10."
+/// "Text over 4,096 bytes: 14. Then a text outside the grammar ..: 13 .. Then over 512 nodes, the root counted: 14. Then an address too long: 3.
+/// Then no room: 10."
 pub fn read(text: &[u8], words: &mut [u64]) -> Plan {
     let refused = |refusal, place| Plan { nodes: 0, place, refusal };
     if text.len() > 4096 {
