@@ -1,12 +1,12 @@
-/* PASA addresses: parents and depths, children, next hops, packet headers, IPv6 forms and paths.
+/* PASA addresses: parents and depths, children, next hops, packet headers, IPv6 forms, paths and hall plans.
  *
  * The functions are those of libpasa.a, for x86-64, each proved to answer what the specification says for every input; a refusal is an
  * answer like any other. Nothing is kept between calls and nothing is allocated, so every function may be called from any thread.
  *
  * An address is any number but zero: a string of 1 to 64 bits whose first bit is 1, right-justified. With a refusal every other number
- * answered is 0, a node answered is the one handed in, and nothing lent is changed. Without one, only what is named below is written. A batch
- * (pasa_next_hops) has no refusal of its own: the refusal of one destination is written at its index, and an output that is too short is no
- * refusal 10, it only shortens the batch.
+ * answered is 0, the place of refusal 13 excepted, a node answered is the one handed in, and nothing lent is changed. Without one, only what is
+ * named below is written. A batch (pasa_next_hops) has no refusal of its own: the refusal of one destination is written at its index, and an
+ * output that is too short is no refusal 10, it only shortens the batch.
  *
  * What a caller owes is C's own: a pointer is valid for as many elements as its length says, and what a call writes to overlaps nothing else
  * that it is handed. A null pointer with length 0 is fine. */
@@ -30,6 +30,10 @@ extern "C" {
 #define PASA_IPV6_WHOLE 16
 #define PASA_PATH_MOST 126
 
+/* The most nodes of a plan, the root counted, and the most bytes of its text. */
+#define PASA_PLAN_NODES 512
+#define PASA_PLAN_BYTES 4096
+
 /* The refusals, by the documents' numbers. */
 enum pasa_refusal {
     PASA_DONE = 0,
@@ -44,7 +48,9 @@ enum pasa_refusal {
     PASA_ZERO_ADDRESS = 9,    /* an address is zero */
     PASA_NO_ROOM = 10,        /* lent output too short */
     PASA_BAD_LINE = 11,       /* the path program's input isn't the one line it reads; no function here answers it */
-    PASA_WRONG_LENGTH = 12    /* an IPv6 address isn't 16 octets, or a prefix isn't 8 */
+    PASA_WRONG_LENGTH = 12,   /* an IPv6 address isn't 16 octets, or a prefix isn't 8 */
+    PASA_BAD_PLAN = 13,       /* a plan's text is outside the grammar */
+    PASA_TOO_MANY = 14        /* a plan has too many bytes or nodes */
 };
 
 /* What becomes of a packet at a node. */
@@ -105,6 +111,13 @@ struct pasa_listed {
     uint8_t refusal;
 };
 
+/* A plan reader's answer: how many nodes the hall has, and where its text stops being a plan. The place is 0 but with refusal 13. */
+struct pasa_plan {
+    size_t nodes;
+    size_t place;
+    uint8_t refusal;
+};
+
 /* The layout above is the archive's. Where a compiler lays a struct out otherwise, it says so here. */
 #if defined(__cplusplus) && __cplusplus >= 201103L
 #define PASA_ASSERT(fact) static_assert(fact, #fact);
@@ -145,6 +158,11 @@ PASA_ASSERT(offsetof(struct pasa_address, refusal) == 8)
 PASA_ASSERT(sizeof(struct pasa_listed) == 8)
 PASA_ASSERT(offsetof(struct pasa_listed, hops) == 0)
 PASA_ASSERT(offsetof(struct pasa_listed, refusal) == 4)
+
+PASA_ASSERT(sizeof(struct pasa_plan) == 24)
+PASA_ASSERT(offsetof(struct pasa_plan, nodes) == 0)
+PASA_ASSERT(offsetof(struct pasa_plan, place) == 8)
+PASA_ASSERT(offsetof(struct pasa_plan, refusal) == 16)
 
 #undef PASA_ASSERT
 
@@ -199,6 +217,10 @@ static inline const char *pasa_refusal_text(uint8_t refusal)
         return "the path program's input isn't the one line it reads";
     case PASA_WRONG_LENGTH:
         return "an IPv6 address isn't 16 octets, or a prefix isn't 8";
+    case PASA_BAD_PLAN:
+        return "a plan's text is outside the grammar";
+    case PASA_TOO_MANY:
+        return "a plan has too many bytes or nodes";
     default:
         return "a refusal that this header doesn't know";
     }
@@ -252,6 +274,13 @@ struct pasa_address pasa_ipv6_read(const uint8_t *prefix, size_t prefix_length, 
 /* Lists the path from the first address up to the deepest common ancestor-or-self and down to the second, both ends in it, at the front of
  * the words. At most PASA_PATH_MOST addresses. Refusals: 9, 10. */
 struct pasa_listed pasa_path(uint64_t first, uint64_t second, uint64_t *words, size_t words_length);
+
+/* Reads a hall plan: "R(", items, ")", an item being "H" for a host or another "R(", items, ")" for a router, at most 64 groups open at once.
+ * The outermost R is the root. Lists the addresses of its nodes at the front of the words in the order of the text, the root first and a router
+ * before what its group holds, and leaves the words behind them as they were. Refusals, in this order: 14 for a text above PASA_PLAN_BYTES; 13
+ * for one outside the grammar, with the place, counted from 0, of the first byte with which the text stops being the start of any text of the
+ * grammar, or the text's length where it ends early; 14 for more than PASA_PLAN_NODES nodes; 3, 10. */
+struct pasa_plan pasa_plan_read(const uint8_t *text, size_t text_length, uint64_t *words, size_t words_length);
 
 #ifdef __cplusplus
 }

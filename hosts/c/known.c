@@ -134,7 +134,9 @@ static void refusal_texts(void)
     same_text("refusal 10", pasa_refusal_text(10), "lent output too short");
     same_text("refusal 11", pasa_refusal_text(11), "the path program's input isn't the one line it reads");
     same_text("refusal 12", pasa_refusal_text(12), "an IPv6 address isn't 16 octets, or a prefix isn't 8");
-    same_text("refusal 13", pasa_refusal_text(13), "a refusal that this header doesn't know");
+    same_text("refusal 13", pasa_refusal_text(13), "a plan's text is outside the grammar");
+    same_text("refusal 14", pasa_refusal_text(14), "a plan has too many bytes or nodes");
+    same_text("refusal 15", pasa_refusal_text(15), "a refusal that this header doesn't know");
     same_text("refusal 255", pasa_refusal_text(255), "a refusal that this header doesn't know");
 }
 
@@ -301,6 +303,183 @@ static void paths(void)
     same("no words for a path", pasa_path(1, 1, NULL, 0).refusal, PASA_NO_ROOM);
 }
 
+/* A plan's text as it is put together. */
+struct text {
+    char bytes[PASA_PLAN_BYTES + 1];
+    size_t length;
+};
+
+/* The text with so many times more behind it. */
+static struct text then(struct text text, const char *more, size_t times)
+{
+    for (size_t i = 0; i < times; i++) {
+        memcpy(text.bytes + text.length, more, strlen(more));
+        text.length += strlen(more);
+    }
+    return text;
+}
+
+static struct text many(const char *bytes, size_t times)
+{
+    return then((struct text){{0}, 0}, bytes, times);
+}
+
+/* The words that are lent for a plan, and what each holds before. */
+enum { LENT = PASA_PLAN_NODES + 8 };
+#define BEFORE UINT64_C(0x5555555555555555)
+static uint64_t lent[LENT];
+
+static struct pasa_plan read_plan(struct text plan, size_t room)
+{
+    for (size_t i = 0; i < LENT; i++)
+        lent[i] = BEFORE;
+    return pasa_plan_read((const uint8_t *)plan.bytes, plan.length, lent, room);
+}
+
+/* The number of the first word from which on all are as before. */
+static size_t words_changed(void)
+{
+    size_t end = LENT;
+    while (end > 0 && lent[end - 1] == BEFORE)
+        end--;
+    return end;
+}
+
+static void same_plan(const char *what, struct pasa_plan got, size_t nodes, size_t place, uint8_t refusal)
+{
+    char part[96];
+    snprintf(part, sizeof part, "%s: the nodes", what);
+    same(part, got.nodes, nodes);
+    snprintf(part, sizeof part, "%s: the place", what);
+    same(part, got.place, place);
+    snprintf(part, sizeof part, "%s: the refusal", what);
+    same(part, got.refusal, refusal);
+    snprintf(part, sizeof part, "%s: the words changed", what);
+    same(part, words_changed(), nodes);
+}
+
+/* It is read where there is room for its nodes and where there is more, and with one word less it is refused with 10. */
+static void plan_read(const char *what, struct text plan, size_t nodes)
+{
+    char part[96];
+    snprintf(part, sizeof part, "%s, one word too few", what);
+    same_plan(part, read_plan(plan, nodes - 1), 0, 0, PASA_NO_ROOM);
+    snprintf(part, sizeof part, "%s, room for the nodes", what);
+    same_plan(part, read_plan(plan, nodes), nodes, 0, PASA_DONE);
+    same_plan(what, read_plan(plan, LENT), nodes, 0, PASA_DONE);
+}
+
+/* It is refused with any room, also with none. */
+static void plan_refused(const char *what, struct text plan, size_t place, uint8_t refusal)
+{
+    same_plan(what, read_plan(plan, LENT), 0, place, refusal);
+    same_plan(what, read_plan(plan, 0), 0, place, refusal);
+}
+
+static void plan_fault(const char *text, size_t place)
+{
+    plan_refused(text, many(text, 1), place, PASA_BAD_PLAN);
+}
+
+static void plan_words(const char *text, const char *const *expected, size_t nodes)
+{
+    plan_read(text, many(text, 1), nodes);
+    for (size_t i = 0; i < nodes; i++) {
+        char part[96];
+        snprintf(part, sizeof part, "%s: address %zu", text, i);
+        same(part, lent[i], bits(expected[i]));
+    }
+}
+
+static void plans_in_the_grammar(void)
+{
+    plan_words("R(R(H)H)", (const char *const[]){"1", "10", "101", "11"}, 4);
+    plan_words("R()", (const char *const[]){"1"}, 1);
+    plan_words("R(HR(HR()H)HR(R()R(H)))",
+               (const char *const[]){"1", "11", "10", "101", "100", "1011", "111", "110", "1100", "11010", "110101"}, 11);
+}
+
+static void plans_outside_the_grammar(void)
+{
+    plan_fault("", 0);
+    plan_fault("x", 0);
+    plan_fault("H", 0);
+    plan_fault("(", 0);
+    plan_fault(" R()", 0);
+    plan_fault("r()", 0);
+    plan_fault("R", 1);
+    plan_fault("RH", 1);
+    plan_fault("R)", 1);
+    plan_fault("R(", 2);
+    plan_fault("R((", 2);
+    plan_fault("R(h)", 2);
+    plan_fault("R( )", 2);
+    plan_fault("R(\xC8)", 2); /* H with the highest bit */
+    plan_fault("R()x", 3);
+    plan_fault("R()H", 3);
+    plan_fault("R())", 3);
+    plan_fault("R()R()", 3);
+    plan_fault("R()\n", 3);
+    plan_fault("R(H", 3);
+    plan_fault("R(R)", 3);
+    plan_fault("R(H))", 4);
+    plan_fault("R(R()", 5);
+    plan_refused("R(, a zero byte, )", (struct text){{'R', '(', 0, ')'}, 4}, 2, PASA_BAD_PLAN);
+}
+
+static void plans_about_their_limits(void)
+{
+    plan_refused("4,096 bytes of nonsense", many("x", PASA_PLAN_BYTES), 0, PASA_BAD_PLAN);
+    plan_refused("4,097 bytes of nonsense", many("x", PASA_PLAN_BYTES + 1), 0, PASA_TOO_MANY);
+    plan_refused("4,096 bytes, never closed", then(many("R(", 1), "H", 4094), 4096, PASA_BAD_PLAN);
+    plan_refused("4,097 bytes, never closed", then(many("R(", 1), "H", 4095), 0, PASA_TOO_MANY);
+    plan_refused("4,096 bytes, closed", then(then(many("R(", 1), "H", 4093), ")", 1), 0, PASA_TOO_MANY);
+
+    plan_read("64 groups", then(many("R(", 64), ")", 64), 64);
+    for (size_t i = 0; i < 64; i++)
+        same("64 groups: an address", lent[i], UINT64_C(1) << i);
+    plan_refused("a host in the 64th group", then(then(many("R(", 64), "H", 1), ")", 64), 0, PASA_TOO_LONG);
+    plan_refused("65 groups", then(many("R(", 65), ")", 65), 128, PASA_BAD_PLAN);
+    plan_refused("64 groups and the R of one more", then(many("R(", 64), "R", 1), 128, PASA_BAD_PLAN);
+    plan_refused("64 groups, never closed", many("R(", 64), 128, PASA_BAD_PLAN);
+
+    plan_read("63 hosts", then(then(many("R(", 1), "H", 63), ")", 1), 64);
+    same("63 hosts: the last address", lent[63], UINT64_MAX);
+    plan_refused("64 hosts", then(then(many("R(", 1), "H", 64), ")", 1), 0, PASA_TOO_LONG);
+    plan_read("63 routers", then(then(many("R(", 1), "R()", 63), ")", 1), 64);
+    same("63 routers: the last address", lent[63], UINT64_MAX - 1);
+    plan_refused("64 routers", then(then(many("R(", 1), "R()", 64), ")", 1), 0, PASA_TOO_LONG);
+    plan_read("63 of each kind", then(then(many("R(", 1), "R()H", 63), ")", 1), 127);
+
+    /* a root with 7 routers, each with 8 routers of 8 hosts: 1 + 7 * (1 + 8 * (1 + 8)) */
+    struct text most = many("R(", 1);
+    for (size_t i = 0; i < 7; i++)
+        most = then(then(then(most, "R(", 1), "R(HHHHHHHH)", 8), ")", 1);
+    plan_read("512 nodes", then(most, ")", 1), PASA_PLAN_NODES);
+    same("512 nodes: the first address", lent[0], PASA_ROOT);
+    same("512 nodes: the second address", lent[1], bits("10"));
+    same("512 nodes: the last address", lent[511], bits("1" "1111110" "11111110" "11111111"));
+    plan_refused("513 nodes", then(most, "H)", 1), 0, PASA_TOO_MANY);
+    plan_refused("513 nodes, the last of them a router", then(most, "R())", 1), 0, PASA_TOO_MANY);
+}
+
+/* "Then a text outside the grammar: 13 .. Then over 512 nodes: 14. Then an address too long: 3. Then no room: 10." */
+static void plans_of_two_refusals(void)
+{
+    plan_refused("512 hosts, and a byte too many", then(then(many("R(", 1), "H", 512), ")x", 1), 515, PASA_BAD_PLAN);
+    plan_refused("64 hosts, and a byte too many", then(then(many("R(", 1), "H", 64), ")x", 1), 67, PASA_BAD_PLAN);
+    plan_refused("512 hosts", then(then(many("R(", 1), "H", 512), ")", 1), 0, PASA_TOO_MANY);
+    plan_refused("511 hosts", then(then(many("R(", 1), "H", 511), ")", 1), 0, PASA_TOO_LONG);
+}
+
+static void plans_by_null_pointers(void)
+{
+    struct pasa_plan none = pasa_plan_read(NULL, 0, NULL, 0);
+    same("no text: the place", none.place, 0);
+    same("no text: the refusal", none.refusal, PASA_BAD_PLAN);
+    same("no words for a plan", pasa_plan_read((const uint8_t *)"R()", 3, NULL, 0).refusal, PASA_NO_ROOM);
+}
+
 int main(void)
 {
     interface();
@@ -311,6 +490,11 @@ int main(void)
     headers();
     ipv6_forms();
     paths();
+    plans_in_the_grammar();
+    plans_outside_the_grammar();
+    plans_about_their_limits();
+    plans_of_two_refusals();
+    plans_by_null_pointers();
     printf("%u known values compared, %u different\n", compared, differences);
     return differences == 0 ? 0 : 1;
 }

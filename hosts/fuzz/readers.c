@@ -1,6 +1,6 @@
-/* A libFuzzer harness over everything of pasa.h that reads octets. Each input goes through pasa_header_read, pasa_packet_next_hop and
- * pasa_ipv6_read, and what they answer is compared with reference.h. What is read as an address is written again, and must give the octets
- * read.
+/* A libFuzzer harness over everything of pasa.h that reads octets. Each input goes through pasa_header_read, pasa_packet_next_hop,
+ * pasa_ipv6_read and pasa_plan_read, and what they answer is compared with reference.h. What is read as an address is written again, and must
+ * give the octets read.
  *
  * The archive is not instrumented, so the octets lent stand once at the end and once at the beginning of mapped memory, with a page that
  * nobody may touch behind them or before them: one octet too far ends the run. What is lent for reading is compared with a copy afterwards,
@@ -17,6 +17,9 @@
 
 enum { PAGE = 4096, RECORD = 10, LARGEST = 256 };
 
+/* A plan's text, and the words for its nodes: each a little more than there may be, in whole pages. */
+enum { TEXT = 2 * PAGE, WORDS = 2 * PAGE };
+
 int LLVMFuzzerTestOneInput(const uint8_t *data, size_t size);
 
 static void fail(const char *what, const uint8_t *octets, size_t count)
@@ -28,21 +31,21 @@ static void fail(const char *what, const uint8_t *octets, size_t count)
     abort();
 }
 
-/* A page between two pages that nobody may touch. */
-static uint8_t *guarded(void)
+/* So many octets, in whole pages, between two pages that nobody may touch. */
+static uint8_t *guarded(size_t size)
 {
-    uint8_t *pages = mmap(NULL, 3 * PAGE, PROT_NONE, MAP_PRIVATE | MAP_ANONYMOUS, -1, 0);
-    if (pages == MAP_FAILED || mprotect(pages + PAGE, PAGE, PROT_READ | PROT_WRITE) != 0) {
-        perror("mapping a guarded page");
+    uint8_t *pages = mmap(NULL, size + 2 * PAGE, PROT_NONE, MAP_PRIVATE | MAP_ANONYMOUS, -1, 0);
+    if (pages == MAP_FAILED || mprotect(pages + PAGE, size, PROT_READ | PROT_WRITE) != 0) {
+        perror("mapping guarded pages");
         exit(2);
     }
     return pages + PAGE;
 }
 
-/* Some octets at the beginning of a guarded page, or at its end. */
-static uint8_t *placed(uint8_t *page, int at_end, const uint8_t *octets, size_t count)
+/* Some octets at the beginning of guarded pages of this size, or at their end. */
+static uint8_t *placed(uint8_t *pages, size_t size, int at_end, const uint8_t *octets, size_t count)
 {
-    uint8_t *place = at_end ? page + PAGE - count : page;
+    uint8_t *place = at_end ? pages + size - count : pages;
     if (count > 0)
         memcpy(place, octets, count);
     return place;
@@ -76,13 +79,13 @@ static void packets(struct pasa_node node, const uint8_t *packet, size_t length)
 {
     static uint8_t *page, *out;
     if (page == NULL) {
-        page = guarded();
-        out = guarded();
+        page = guarded(PAGE);
+        out = guarded(PAGE);
     }
     struct pasa_read expected_read = reference_header_read(packet, length);
     struct pasa_hop expected_hop = reference_packet_next_hop(node, packet, length);
     for (int at_end = 0; at_end < 2; at_end++) {
-        uint8_t *lent = placed(page, at_end, packet, length);
+        uint8_t *lent = placed(page, PAGE, at_end, packet, length);
         struct pasa_read read = pasa_header_read(lent, length);
         unchanged(lent, packet, length);
         if (read.address != expected_read.address || read.place != expected_read.place || read.refusal != expected_read.refusal)
@@ -102,9 +105,9 @@ static void forms(size_t prefix_length, const uint8_t *octets, size_t length)
 {
     static uint8_t *prefix_page, *page, *out;
     if (page == NULL) {
-        prefix_page = guarded();
-        page = guarded();
-        out = guarded();
+        prefix_page = guarded(PAGE);
+        page = guarded(PAGE);
+        out = guarded(PAGE);
     }
     if (prefix_length > length)
         prefix_length = length;
@@ -112,8 +115,8 @@ static void forms(size_t prefix_length, const uint8_t *octets, size_t length)
     size_t ipv6_length = length - prefix_length;
     struct pasa_address expected = reference_ipv6_read(octets, prefix_length, ipv6, ipv6_length);
     for (int at_end = 0; at_end < 2; at_end++) {
-        uint8_t *lent_prefix = placed(prefix_page, at_end, octets, prefix_length);
-        uint8_t *lent = placed(page, at_end, ipv6, ipv6_length);
+        uint8_t *lent_prefix = placed(prefix_page, PAGE, at_end, octets, prefix_length);
+        uint8_t *lent = placed(page, PAGE, at_end, ipv6, ipv6_length);
         struct pasa_address got = pasa_ipv6_read(lent_prefix, prefix_length, lent, ipv6_length);
         unchanged(lent_prefix, octets, prefix_length);
         unchanged(lent, ipv6, ipv6_length);
@@ -130,12 +133,80 @@ static void forms(size_t prefix_length, const uint8_t *octets, size_t length)
     }
 }
 
-/* The first ten octets are the node's record, and the packet follows: once with the record as it stands, once with a shorter address and
- * smaller counts, so that more records are good. Then the octets behind the first are a prefix, of as many octets as the first says, and an
- * IPv6 address; and at last all octets are an IPv6 address with its own first eight for the prefix. */
+/* One plan into so many words: the whole answer, and all that stands about the words. */
+static void plan_into(const uint8_t *text, size_t length, size_t room)
+{
+    static uint8_t *text_pages, *pages;
+    if (pages == NULL) {
+        text_pages = guarded(TEXT);
+        pages = guarded(WORDS);
+    }
+    uint8_t expected_pages[WORDS];
+    uint64_t words[PASA_PLAN_NODES];
+    struct pasa_plan expected = reference_plan_read(text, length, words, room);
+    for (int at_end = 0; at_end < 2; at_end++) {
+        size_t at = at_end ? WORDS - room * sizeof(uint64_t) : 0;
+        memset(pages, 0x5A, WORDS);
+        memset(expected_pages, 0x5A, WORDS);
+        memcpy(expected_pages + at, words, expected.nodes * sizeof(uint64_t));
+        uint8_t *lent = placed(text_pages, TEXT, at_end, text, length);
+        struct pasa_plan got = pasa_plan_read(lent, length, (uint64_t *)(void *)(pages + at), room);
+        unchanged(lent, text, length);
+        if (got.nodes != expected.nodes || got.place != expected.place || got.refusal != expected.refusal) {
+            fprintf(stderr, "%zu nodes, place %zu, refusal %u in %zu words\n", got.nodes, got.place, got.refusal, room);
+            fail("pasa_plan_read differs at", text, length);
+        }
+        if (memcmp(pages, expected_pages, WORDS) != 0)
+            fail("pasa_plan_read writes otherwise at", text, length);
+    }
+}
+
+/* With room for all nodes and some to spare, with none to spare, and with one word less, where each R and H is one. */
+static void plan(const uint8_t *text, size_t length)
+{
+    size_t nodes = 0;
+    for (size_t i = 0; i < length; i++)
+        if (text[i] == 'R' || text[i] == 'H')
+            nodes++;
+    if (nodes > PASA_PLAN_NODES)
+        nodes = PASA_PLAN_NODES;
+    plan_into(text, length, nodes + 2);
+    plan_into(text, length, nodes);
+    plan_into(text, length, nodes > 0 ? nodes - 1 : 0);
+}
+
+/* Each octet spells a piece of a plan, and how often: so a few octets reach the limits, which lie beyond the length of the inputs. The last kind
+ * of piece is no part of a plan, but much like one. */
+static void spelled_plan(const uint8_t *octets, size_t count)
+{
+    static const char *const pieces[7] = {"R(", "H", ")", "R()", "R(H)", "R", "("};
+    static const char *const wrong[8] = {"x", "\n", "\r\n", " ", "r", "h", "\xC8", "[]"};
+    uint8_t text[TEXT];
+    size_t length = 0;
+    for (size_t i = 0; i < count; i++) {
+        unsigned kind = octets[i] % 8, number = octets[i] / 8;
+        const char *piece = kind < 7 ? pieces[kind] : wrong[number % 8];
+        size_t size = strlen(piece);
+        size_t times = kind < 5 ? number + 1 : 1;
+        for (; times > 0 && length + size <= TEXT; times--) {
+            memcpy(text + length, piece, size);
+            length += size;
+        }
+    }
+    plan(text, length);
+}
+
+/* All octets are a plan's text, and then spell another one. Then the first ten are a node's record, if there are ten, and the packet follows:
+ * once with the record as it stands, once with a shorter address and smaller counts, so that more records are good. Then the octets behind the
+ * first are a prefix, of as many octets as the first says, and an IPv6 address; and at last all octets are an IPv6 address with its own first
+ * eight for the prefix. */
 int LLVMFuzzerTestOneInput(const uint8_t *data, size_t size)
 {
-    if (size < RECORD || size > LARGEST)
+    if (size > LARGEST)
+        return 0;
+    plan(data, size);
+    spelled_plan(data, size);
+    if (size < RECORD)
         return 0;
     struct pasa_node node = {0, data[8], data[9]};
     for (size_t i = 0; i < 8; i++)

@@ -1,4 +1,4 @@
-/* What the three readers must answer, written from the specification octet by octet and number by number, for the fuzzer to compare with. */
+/* What the readers must answer, written from the specification octet by octet and number by number, for the fuzzer to compare with. */
 #ifndef REFERENCE_H
 #define REFERENCE_H
 
@@ -138,6 +138,103 @@ static struct pasa_address reference_ipv6_read(const uint8_t *prefix, size_t pre
         answer.address = 0;
     else if (answer.address == 0)
         answer.refusal = PASA_ZERO_ADDRESS;
+    return answer;
+}
+
+/* Whether a byte may stand in a plan behind the one before it, with so many groups open. Nothing may stand behind the root's group. */
+static bool may_follow(uint8_t before, uint8_t byte, size_t open)
+{
+    if (before == 'R')
+        return byte == '(';
+    return open > 0 && (byte == 'H' || byte == ')' || (byte == 'R' && open < 64));
+}
+
+/* The place of the first byte that may not stand where it does; the text's length where none is found. Whether the text is a plan then, is the
+ * second answer. */
+static size_t plan_fault(const uint8_t *text, size_t length, bool *whole)
+{
+    size_t open = 0;
+    *whole = false;
+    for (size_t i = 0; i < length; i++) {
+        if (i == 0 ? text[0] != 'R' : !may_follow(text[i - 1], text[i], open))
+            return i;
+        if (text[i] == '(')
+            open++;
+        if (text[i] == ')')
+            open--;
+    }
+    *whole = length > 1 && open == 0;
+    return length;
+}
+
+/* A router of a plan: its digits, and its children of each kind, routers first. */
+struct planned {
+    struct digits digits;
+    unsigned children[2];
+};
+
+/* The digits of its next child, a host or not; none where they are more than an address has. */
+static struct digits planned_child(struct planned *router, bool host)
+{
+    struct digits child = router->digits;
+    unsigned ones = router->children[host]++;
+    if (child.count + ones + 1 > 64)
+        return (struct digits){0, {false}};
+    while (ones-- > 0)
+        child.bit[child.count++] = true;
+    child.bit[child.count++] = host;
+    return child;
+}
+
+/* Lists the addresses of a plan that has at most 512 nodes, and answers how many there are; none where one is too long. */
+static size_t plan_addresses(const uint8_t *text, size_t length, uint64_t *addresses)
+{
+    struct planned open[64];
+    size_t depth = 0, nodes = 0;
+    for (size_t i = 0; i < length; i++) {
+        if (text[i] == ')')
+            depth--;
+        if (text[i] != 'R' && text[i] != 'H')
+            continue;
+        struct digits digits = depth == 0 ? digits_of(PASA_ROOT) : planned_child(&open[depth - 1], text[i] == 'H');
+        if (digits.count == 0)
+            return 0;
+        if (text[i] == 'R')
+            open[depth++] = (struct planned){digits, {0, 0}};
+        addresses[nodes++] = number_of(digits, digits.count);
+    }
+    return nodes;
+}
+
+static struct pasa_plan reference_plan_read(const uint8_t *text, size_t length, uint64_t *words, size_t room)
+{
+    struct pasa_plan answer = {0, 0, PASA_DONE};
+    uint64_t addresses[512];
+    size_t nodes = 0;
+    bool whole;
+    if (length > 4096) {
+        answer.refusal = PASA_TOO_MANY;
+        return answer;
+    }
+    size_t place = plan_fault(text, length, &whole);
+    if (!whole) {
+        answer.refusal = PASA_BAD_PLAN;
+        answer.place = place;
+        return answer;
+    }
+    for (size_t i = 0; i < length; i++)
+        nodes += text[i] == 'R' || text[i] == 'H';
+    if (nodes > 512) {
+        answer.refusal = PASA_TOO_MANY;
+    } else if (plan_addresses(text, length, addresses) == 0) {
+        answer.refusal = PASA_TOO_LONG;
+    } else if (room < nodes) {
+        answer.refusal = PASA_NO_ROOM;
+    } else {
+        for (size_t i = 0; i < nodes; i++)
+            words[i] = addresses[i];
+        answer.nodes = nodes;
+    }
     return answer;
 }
 

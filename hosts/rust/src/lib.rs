@@ -1,4 +1,4 @@
-//! PASA addresses in Rust: children, next hops, packet headers, IPv6 forms and paths, by the proved functions of libpasa.a.
+//! PASA addresses in Rust: children, next hops, packet headers, IPv6 forms, paths and hall plans, by the proved functions of libpasa.a.
 //!
 //! ```
 //! use pasa::{Address, Hop, Node};
@@ -44,6 +44,7 @@ mod header;
 mod hop;
 mod ipv6;
 mod node;
+mod plan;
 mod refusal;
 mod route;
 pub mod sys;
@@ -53,6 +54,7 @@ pub use header::{read_header, write_header, HEADER_MOST};
 pub use hop::Hop;
 pub use ipv6::{read_ipv6, write_ipv6, IPV6_PREFIX, IPV6_WHOLE};
 pub use node::Node;
+pub use plan::{read_plan, PlanRefusal, PLAN_BYTES, PLAN_NODES};
 pub use refusal::Refusal;
 pub use route::{path, PATH_MOST};
 

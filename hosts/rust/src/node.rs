@@ -154,7 +154,7 @@ mod tests {
         let mut root = Node::fresh(Address::ROOT);
         assert_eq!(root.child(answer(0b10, 0)), Ok(Address::answered(0b10)));
         assert_eq!(root, Node::restore(Address::ROOT, 4, 2));
-        assert_eq!(root.child(answer(0b10, 13)), Err(Refusal::Unknown(13)));
+        assert_eq!(root.child(answer(0b10, 15)), Err(Refusal::Unknown(15)));
         assert_eq!(root.child(answer(0b10, 255)), Err(Refusal::Unknown(255)));
     }
 

@@ -21,12 +21,14 @@ pub enum Refusal {
     NoRoom,
     BadLine,
     WrongLength,
+    BadPlan,
+    TooMany,
     /// A number that this crate doesn't know.
     Unknown(u8),
 }
 
 /// The refusals that the documents number, the first with 1, and their words.
-const TABLE: [(Refusal, &str); 12] = [
+const TABLE: [(Refusal, &str); 14] = [
     (Refusal::BadRecord, "the node record is bad"),
     (Refusal::HostAsked, "a host is asked for a child"),
     (Refusal::TooLong, "the child would be longer than 64 bits"),
@@ -39,10 +41,12 @@ const TABLE: [(Refusal, &str); 12] = [
     (Refusal::NoRoom, "lent output too short"),
     (Refusal::BadLine, "the path program's input isn't the one line it reads"),
     (Refusal::WrongLength, "an IPv6 address isn't 16 octets, or a prefix isn't 8"),
+    (Refusal::BadPlan, "a plan's text is outside the grammar"),
+    (Refusal::TooMany, "a plan has too many bytes or nodes"),
 ];
 
 impl Refusal {
-    /// The documents' number, 1 to 12, or the unknown one.
+    /// The documents' number, 1 to 14, or the unknown one.
     pub const fn number(self) -> u8 {
         match self {
             Refusal::BadRecord => 1,
@@ -57,6 +61,8 @@ impl Refusal {
             Refusal::NoRoom => 10,
             Refusal::BadLine => 11,
             Refusal::WrongLength => 12,
+            Refusal::BadPlan => 13,
+            Refusal::TooMany => 14,
             Refusal::Unknown(number) => number,
         }
     }
@@ -99,7 +105,7 @@ mod tests {
         for number in 1..=u8::MAX {
             let refusal = done(number, || 5).unwrap_err();
             assert_eq!(refusal.number(), number);
-            assert_eq!(matches!(refusal, Refusal::Unknown(_)), number > 12, "{refusal}");
+            assert_eq!(matches!(refusal, Refusal::Unknown(_)), number > 14, "{refusal}");
         }
     }
 }

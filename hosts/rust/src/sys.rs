@@ -65,6 +65,15 @@ pub struct Listed {
     pub refusal: u8,
 }
 
+/// A plan reader's answer.
+#[repr(C)]
+#[derive(Clone, Copy, Debug, PartialEq, Eq)]
+pub struct Plan {
+    pub nodes: usize,
+    pub place: usize,
+    pub refusal: u8,
+}
+
 /// What becomes of a packet, in [`Hop::action`].
 pub const STOPPED: u8 = 0;
 pub const DELIVERED: u8 = 1;
@@ -102,4 +111,5 @@ extern "C" {
     pub fn pasa_ipv6_write(prefix: *const u8, prefix_length: usize, address: u64, out: *mut u8, out_length: usize) -> Written;
     pub fn pasa_ipv6_read(prefix: *const u8, prefix_length: usize, ipv6: *const u8, ipv6_length: usize) -> Address;
     pub fn pasa_path(first: u64, second: u64, words: *mut u64, words_length: usize) -> Listed;
+    pub fn pasa_plan_read(text: *const u8, text_length: usize, words: *mut u64, words_length: usize) -> Plan;
 }

@@ -1,6 +1,7 @@
 //! Each export beside the specification on bit strings (`document`), on at least a million inputs: every small one, boundaries, damaged
 //! ones, every beginning of valid packets, and random ones by fixed seeds. A failure prints the input.
 mod document;
+mod plans;
 
 use document::Kind;
 use pasa::sys::{self, Node};
@@ -90,7 +91,7 @@ impl Random {
             // more octets than needed, or a size that is not allowed
             3 => {
                 let size = self.below(33) as u8;
-                packet[1] = 0x80 | size.wrapping_sub(1) % 32;
+                packet[1] = 0x80 | (size.wrapping_sub(1) % 32);
                 let zeros = self.below(8);
                 packet.splice(3..3, std::iter::repeat(0).take(zeros));
             }
@@ -101,7 +102,7 @@ impl Random {
                     *octet = right;
                 }
                 if count > 1 {
-                    packet[1] = 0x80 | self.octet() % 10;
+                    packet[1] = 0x80 | (self.octet() % 10);
                 }
             }
             _ => (),
@@ -112,7 +113,7 @@ impl Random {
 
 /// How often each refusal was the answer.
 #[derive(Default)]
-struct Seen([usize; 13]);
+struct Seen([usize; 15]);
 
 impl Seen {
     fn add(&mut self, refusal: u8) {
@@ -126,6 +127,10 @@ impl Seen {
         self
     }
 
+    fn inputs(&self) -> usize {
+        self.0.iter().sum()
+    }
+
     /// Each of these refusals, done among them, was met often, no other was met, and there were so many inputs.
     fn often(&self, refusals: &[u8]) {
         for (refusal, times) in self.0.iter().enumerate() {
@@ -135,7 +140,7 @@ impl Seen {
                 assert_eq!(*times, 0, "refusal {refusal} was the answer");
             }
         }
-        let inputs: usize = self.0.iter().sum();
+        let inputs = self.inputs();
         assert!(inputs >= MILLION, "{inputs} inputs");
         println!("{inputs} inputs, answers by refusal {:?}", self.0);
     }
@@ -429,7 +434,7 @@ fn paths_of_any_addresses() -> Seen {
     seen
 }
 
-/// The longest of the tests, and the last to start: so on both cores.
+/// The longest of the tests, and one of the last to start: so on both cores.
 #[test]
 fn paths() {
     let small = std::thread::spawn(paths_of_small_addresses);
@@ -450,5 +455,6 @@ fn a_null_pointer_with_length_0() {
         assert_eq!(sys::pasa_ipv6_write(null, 0, 1, null_mut, 0), document::ipv6_write(&[], 1, &mut []));
         assert_eq!(sys::pasa_ipv6_read(null, 0, null, 0), document::ipv6_read(&[], &[]));
         assert_eq!(sys::pasa_path(1, 1, null_mut.cast(), 0), document::path(1, 1, &mut []));
+        assert_eq!(sys::pasa_plan_read(null, 0, null_mut.cast(), 0), document::plan::read(&[], &mut []));
     }
 }

@@ -26,12 +26,12 @@ fn what_an_address_answers() {
 #[test]
 fn refusals_have_the_documents_numbers() {
     assert_eq!(Refusal::of(0), None);
-    for number in 1..=12 {
+    for number in 1..=14 {
         let refusal = Refusal::of(number).unwrap();
         assert_eq!(refusal.number(), number);
         assert_ne!(refusal, Refusal::Unknown(number));
     }
-    assert_eq!(Refusal::of(13), Some(Refusal::Unknown(13)));
+    assert_eq!(Refusal::of(15), Some(Refusal::Unknown(15)));
     let error: Box<dyn Error> = Box::new(Refusal::ChildNotGiven);
     assert_eq!(error.to_string(), "refused 7: destination below this node, child not given");
 }
@@ -40,7 +40,7 @@ fn refusals_have_the_documents_numbers() {
 #[test]
 fn refusals_have_the_documents_words() {
     let readme = include_str!("../../../README.md");
-    for number in 1..=12 {
+    for number in 1..=14 {
         let refusal = Refusal::of(number).unwrap();
         let row = format!("\n| {number} | {} |\n", refusal.text());
         assert!(readme.contains(&row), "no such row: {row}");
@@ -104,4 +104,26 @@ fn paths() {
     assert_eq!(pasa::path(address("10011"), address("101011"), &mut words), Ok(4));
     assert_eq!(words[..5], [0b10011, 0b100, 0b10, 0b1010, 0b101011]);
     assert_eq!(pasa::path(address("10011"), address("101011"), &mut words[..4]), Err(Refusal::NoRoom));
+}
+
+#[test]
+fn plans() {
+    let mut words = [9; 6];
+    assert_eq!(pasa::read_plan(b"R(R(H)H)", &mut words), Ok(4));
+    assert_eq!(words, [0b1, 0b10, 0b101, 0b11, 9, 9]);
+    let mut refused = |text: &[u8], room: usize| {
+        let refused = pasa::read_plan(text, &mut words[..room]).unwrap_err();
+        (refused.refusal(), refused.place())
+    };
+    assert_eq!(refused(b"R(R(H)H)", 3), (Refusal::NoRoom, None));
+    assert_eq!(refused(b"", 3), (Refusal::BadPlan, Some(0)));
+    assert_eq!(refused(b"R(H))", 6), (Refusal::BadPlan, Some(4)));
+    assert_eq!(refused(&[b'x'; pasa::PLAN_BYTES], 0), (Refusal::BadPlan, Some(0)));
+    assert_eq!(refused(&[b'x'; pasa::PLAN_BYTES + 1], 0), (Refusal::TooMany, None));
+    let hosts = |count| format!("R({})", "H".repeat(count));
+    assert_eq!(refused(hosts(64).as_bytes(), 6), (Refusal::TooLong, None));
+    assert_eq!(refused(hosts(pasa::PLAN_NODES).as_bytes(), 6), (Refusal::TooMany, None));
+    assert_eq!(words, [0b1, 0b10, 0b101, 0b11, 9, 9]);
+    let error: Box<dyn Error> = Box::new(pasa::read_plan(b"R(H", &mut words).unwrap_err());
+    assert_eq!(error.to_string(), "refused 13: a plan's text is outside the grammar, at place 3");
 }

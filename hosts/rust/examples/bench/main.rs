@@ -7,8 +7,8 @@
 //! Run it by `cargo run --release --offline --example bench`.
 mod simple;
 
-use pasa::sys::{self, Child, Hop, Listed, Node, Read, Written};
-use pasa::Address;
+use pasa::sys::{self, Child, Hop, Listed, Node, Plan, Read, Written};
+use pasa::{Address, PLAN_NODES};
 use std::collections::HashMap;
 use std::hint::black_box;
 use std::time::Instant;
@@ -16,6 +16,8 @@ use std::time::Instant;
 /// So many that the processor cannot learn the branches of one round by heart.
 const INPUTS: usize = 65_536;
 const HALL: usize = 4096;
+/// Each plan is long, so fewer are enough.
+const PLANS: usize = 256;
 const ROUNDS: usize = 150;
 
 struct Random(u64);
@@ -75,6 +77,11 @@ fn called_path(first: u64, second: u64, words: &mut [u64]) -> Listed {
     simple::path(first, second, words)
 }
 
+#[inline(never)]
+fn called_plan_read(text: &[u8], words: &mut [u64]) -> Plan {
+    simple::plan_read(text, words)
+}
+
 fn router(node: Node) -> Child {
     unsafe { sys::pasa_child_router(node) }
 }
@@ -99,14 +106,23 @@ fn path(first: u64, second: u64, words: &mut [u64]) -> Listed {
     unsafe { sys::pasa_path(first, second, words.as_mut_ptr(), words.len()) }
 }
 
-/// The least time of each side for one input, in nanoseconds.
-fn times<const N: usize>(mut sides: [&mut dyn FnMut(); N]) -> [f64; N] {
+fn plan_read(text: &[u8], words: &mut [u64]) -> Plan {
+    unsafe { sys::pasa_plan_read(text.as_ptr(), text.len(), words.as_mut_ptr(), words.len()) }
+}
+
+/// The least time of each side for one of the inputs, in nanoseconds.
+fn times<const N: usize>(sides: [&mut dyn FnMut(); N]) -> [f64; N] {
+    times_of(INPUTS, sides)
+}
+
+/// The same where each side goes through so many inputs.
+fn times_of<const N: usize>(inputs: usize, mut sides: [&mut dyn FnMut(); N]) -> [f64; N] {
     let mut least = [f64::INFINITY; N];
     for _ in 0..ROUNDS {
         for (side, least) in sides.iter_mut().zip(&mut least) {
             let start = Instant::now();
             side();
-            *least = least.min(start.elapsed().as_nanos() as f64 / INPUTS as f64);
+            *least = least.min(start.elapsed().as_nanos() as f64 / inputs as f64);
         }
     }
     least
@@ -127,10 +143,10 @@ macro_rules! each {
     };
 }
 
-/// A tree of 4,096 nodes, in the order given, with their records: each request goes to a node given earlier, the first ones more often.
-fn hall(random: &mut Random) -> Vec<Node> {
+/// A tree of so many nodes, in the order given, with their records: each request goes to a node given earlier, the first ones more often.
+fn hall(random: &mut Random, size: usize) -> Vec<Node> {
     let mut nodes = vec![unsafe { sys::pasa_fresh(Address::ROOT.number()) }];
-    while nodes.len() < HALL {
+    while nodes.len() < size {
         let at = random.below(nodes.len() as u64).min(random.below(nodes.len() as u64)) as usize;
         let answer = if random.below(2) == 0 { router(nodes[at]) } else { host(nodes[at]) };
         nodes[at] = answer.node;
@@ -141,12 +157,30 @@ fn hall(random: &mut Random) -> Vec<Node> {
     nodes
 }
 
+/// The plan of a hall, each node's items in the order given: the text of one of its nodes, with all that is below it.
+fn spell(hall: &[Node], address: u64, text: &mut Vec<u8>) {
+    if Address::new(address).is_ok_and(Address::is_host) {
+        return text.push(b'H');
+    }
+    text.extend_from_slice(b"R(");
+    for item in hall.iter().filter(|item| unsafe { sys::pasa_parent(item.address) } == address) {
+        spell(hall, item.address, text);
+    }
+    text.push(b')');
+}
+
+fn plan(random: &mut Random) -> Vec<u8> {
+    let mut text = Vec::new();
+    spell(&hall(random, PLAN_NODES), Address::ROOT.number(), &mut text);
+    text
+}
+
 fn main() {
     let random = &mut Random(2);
     println!("| function | proved, ns | Rust called, ns | ratio | Rust inlined, ns | ratio |\n|---|---|---|---|---|---|");
 
     // A node of the hall with many children, and destinations of the whole hall.
-    let hall = hall(random);
+    let hall = hall(random, HALL);
     let routers = |node: &&Node| node.address > 1 && node.address % 2 == 0;
     let node = *hall.iter().filter(routers).max_by_key(|node| node.routers + node.hosts).unwrap();
     let mut anyone = || hall[random.below(HALL as u64) as usize];
@@ -270,6 +304,27 @@ fn main() {
             ]),
         );
     }
+
+    let plans: Vec<Vec<u8>> = (0..PLANS).map(|_| plan(random)).collect();
+    let mut words = [0; PLAN_NODES];
+    let mut words2 = [0; PLAN_NODES];
+    let mut words3 = [0; PLAN_NODES];
+    for text in &plans {
+        let read = plan_read(text, &mut words);
+        assert_eq!(read, Plan { nodes: PLAN_NODES, place: 0, refusal: 0 });
+        assert_eq!((simple::plan_read(text, &mut words2), words2), (read, words));
+    }
+    row(
+        &format!("plan of {PLAN_NODES} nodes"),
+        times_of(
+            PLANS,
+            [
+                each!(plans, |text| plan_read(text, black_box(&mut words))),
+                each!(plans, |text| called_plan_read(text, black_box(&mut words2))),
+                each!(plans, |text| simple::plan_read(text, black_box(&mut words3))),
+            ],
+        ),
+    );
 
     // What one would deploy otherwise: a table of the next hop for each node of the hall.
     let mut map: HashMap<u64, u64> = HashMap::new();

@@ -1,6 +1,6 @@
 //! The functions as one would write them in Rust by hand, on 64-bit numbers: straight from the rules, with the language's own means and
 //! without tricks.
-use pasa::sys::{Child, Hop, Listed, Node, Read, Written, DELIVERED, STOPPED, TO_CHILD, TO_PARENT};
+use pasa::sys::{Child, Hop, Listed, Node, Plan, Read, Written, DELIVERED, STOPPED, TO_CHILD, TO_PARENT};
 
 fn bit_length(address: u64) -> u32 {
     64 - address.leading_zeros()
@@ -176,4 +176,90 @@ pub fn path(first: u64, second: u64, words: &mut [u64]) -> Listed {
         d = parent(d);
     }
     Listed { hops: hops as u32, refusal: 0 }
+}
+
+/// The number of nodes of a plan's text, or the place where it stops being one.
+fn plan_nodes(text: &[u8]) -> Result<usize, usize> {
+    let mut open = 0;
+    let mut nodes = 0;
+    let mut place = 0;
+    while place < text.len() {
+        match text[place] {
+            b'R' if open < 64 && (open > 0 || place == 0) => {
+                place += 1;
+                if text.get(place) != Some(&b'(') {
+                    return Err(place);
+                }
+                nodes += 1;
+                open += 1;
+            }
+            b'H' if open > 0 => nodes += 1,
+            b')' if open > 0 => open -= 1,
+            _ => return Err(place),
+        }
+        place += 1;
+    }
+    if open > 0 || nodes == 0 {
+        return Err(text.len());
+    }
+    Ok(nodes)
+}
+
+/// The addresses of a plan that has so many nodes, at the front of the words; none where one is too long.
+fn plan_addresses(text: &[u8], words: &mut [u64]) -> Option<()> {
+    let mut open = [Node { address: 0, routers: 0, hosts: 0 }; 64];
+    let mut depth = 0;
+    let mut nodes = 0;
+    for byte in text {
+        let is_host = match byte {
+            b'R' => false,
+            b'H' => true,
+            b')' => {
+                depth -= 1;
+                continue;
+            }
+            _ => continue,
+        };
+        let mut address = 1;
+        if depth > 0 {
+            let answer = child(open[depth - 1], is_host);
+            if answer.refusal != 0 {
+                return None;
+            }
+            open[depth - 1] = answer.node;
+            address = answer.child;
+        }
+        if !is_host {
+            open[depth] = Node { address, routers: 0, hosts: 0 };
+            depth += 1;
+        }
+        words[nodes] = address;
+        nodes += 1;
+    }
+    Some(())
+}
+
+#[inline]
+pub fn plan_read(text: &[u8], words: &mut [u64]) -> Plan {
+    let refused = |refusal, place| Plan { nodes: 0, place, refusal };
+    if text.len() > 4096 {
+        return refused(14, 0);
+    }
+    let nodes = match plan_nodes(text) {
+        Ok(nodes) => nodes,
+        Err(place) => return refused(13, place),
+    };
+    if nodes > 512 {
+        return refused(14, 0);
+    }
+    // not into the words lent, which stay as they are if an address is too long
+    let mut addresses = [0; 512];
+    if plan_addresses(text, &mut addresses).is_none() {
+        return refused(3, 0);
+    }
+    let Some(front) = words.get_mut(..nodes) else {
+        return refused(10, 0);
+    };
+    front.copy_from_slice(&addresses[..nodes]);
+    Plan { nodes, place: 0, refusal: 0 }
 }

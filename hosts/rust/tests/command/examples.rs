@@ -1,4 +1,5 @@
-//! Every example of the documents and of `hall help` prints what it shows: the commands as typed, in the repository's folder.
+//! Every example of the documents and of `hall help` prints what it shows: the commands as typed, those of the documents in the repository's
+//! folder, those of `hall help` in an empty one.
 use crate::{answer, text};
 use std::path::{Path, PathBuf};
 use std::process::Command;
@@ -32,33 +33,35 @@ fn repository() -> PathBuf {
     Path::new(env!("CARGO_MANIFEST_DIR")).join("../..")
 }
 
-/// What a shell shows, standard error among it. `./hall` is the program, built already.
-fn shown(command: &str) -> String {
+/// What a shell in a folder shows, standard error among it. `./hall` is the program, built already.
+fn shown(command: &str, folder: &Path) -> String {
     let program = Path::new(env!("CARGO_BIN_EXE_hall"));
     let path = format!("{}:{}", program.parent().unwrap().display(), std::env::var("PATH").unwrap());
     let script = format!("exec 2>&1; {}", command.replace("./hall", "hall"));
-    let got = Command::new("sh").arg("-c").arg(script).current_dir(repository()).env("PATH", path).output().unwrap();
+    let got = Command::new("sh").arg("-c").arg(script).current_dir(folder).env("PATH", path).output().unwrap();
     text(&got.stdout).to_string()
 }
 
-/// Tries the examples that run `hall`, and answers how many there are.
-fn tried(document: &str) -> usize {
-    let examples = examples(document).into_iter().filter(|example| example.command.contains("hall "));
-    examples.map(|example| assert_eq!(shown(&example.command), example.shown, "$ {}", example.command)).count()
+/// Tries the examples in which `hall` is named, and answers how many there are.
+fn tried(document: &str, folder: &Path) -> usize {
+    let examples = examples(document).into_iter().filter(|example| example.command.contains("hall"));
+    examples.map(|example| assert_eq!(shown(&example.command, folder), example.shown, "$ {}", example.command)).count()
 }
 
 #[test]
 fn in_help() {
-    for (command, least) in [("path", 1), ("next", 4), ("trace", 1), ("header", 2), ("ipv6", 2)] {
+    let folder = Path::new(env!("CARGO_TARGET_TMPDIR")).join("help");
+    std::fs::create_dir_all(&folder).unwrap();
+    for (command, least) in [("path", 1), ("next", 4), ("plan", 2), ("draw", 1), ("trace", 3), ("header", 2), ("ipv6", 2)] {
         let got = answer(&["help", command], "");
-        assert!(tried(text(&got.stdout)) >= least, "help {command} has too few examples");
+        assert!(tried(text(&got.stdout), &folder) >= least, "help {command} has too few examples");
     }
 }
 
 #[test]
 fn in_documents() {
-    for (document, least) in [("README.md", 1), ("docs/HALL.md", 15)] {
+    for (document, least) in [("README.md", 2), ("docs/HALL.md", 20)] {
         let text = std::fs::read_to_string(repository().join(document)).unwrap();
-        assert!(tried(&text) >= least, "{document} has too few examples");
+        assert!(tried(&text, &repository()) >= least, "{document} has too few examples");
     }
 }

@@ -1,14 +1,18 @@
 //! `hall` as a user runs it: each command, good and bad, by its output, its standard error and its exit status.
+mod draw;
 mod examples;
 mod header;
 mod help;
 mod ipv6;
 mod next;
 mod path;
+mod plan;
 mod trace;
+mod xml;
 
 use std::ffi::OsStr;
 use std::io::Write;
+use std::path::{Path, PathBuf};
 use std::process::{Command, Output, Stdio};
 
 fn hall(words: &[impl AsRef<OsStr>]) -> Command {
@@ -17,13 +21,13 @@ fn hall(words: &[impl AsRef<OsStr>]) -> Command {
     command
 }
 
-/// What `hall` answers to these words, with this text on standard input.
-fn answer(words: &[impl AsRef<OsStr>], input: &str) -> Output {
+/// What `hall` answers to these words, with these octets on standard input.
+fn answer(words: &[impl AsRef<OsStr>], input: &(impl AsRef<[u8]> + ?Sized)) -> Output {
     let mut child = hall(words).spawn().unwrap();
     let mut stdin = child.stdin.take().unwrap();
-    let input = input.to_string();
+    let input = input.as_ref().to_vec();
     // a program that ends early reads no more: that is for its answer to show
-    let writer = std::thread::spawn(move || drop(stdin.write_all(input.as_bytes())));
+    let writer = std::thread::spawn(move || drop(stdin.write_all(&input)));
     let output = child.wait_with_output().unwrap();
     writer.join().unwrap();
     output
@@ -31,6 +35,13 @@ fn answer(words: &[impl AsRef<OsStr>], input: &str) -> Output {
 
 fn text(octets: &[u8]) -> &str {
     std::str::from_utf8(octets).unwrap()
+}
+
+/// A file with these octets, below the target folder.
+fn file(name: &str, octets: impl AsRef<[u8]>) -> PathBuf {
+    let file = Path::new(env!("CARGO_TARGET_TMPDIR")).join(name);
+    std::fs::write(&file, octets).unwrap();
+    file
 }
 
 /// The words of a command line.
@@ -64,6 +75,7 @@ fn misuses_words(words: &[&str], expected: &str) {
 }
 
 const REFUSED_1: &str = "refused 1: the node record is bad";
+const REFUSED_3: &str = "refused 3: the child would be longer than 64 bits";
 const REFUSED_4: &str = "refused 4: the packet ends too early";
 const REFUSED_5: &str = "refused 5: one of the first three octets is wrong";
 const REFUSED_6: &str = "refused 6: size not allowed, or more pairs than needed";
@@ -71,3 +83,5 @@ const REFUSED_7: &str = "refused 7: destination below this node, child not given
 const REFUSED_8: &str = "refused 8: IPv6 prefix differs";
 const REFUSED_9: &str = "refused 9: an address is zero";
 const REFUSED_12: &str = "refused 12: an IPv6 address isn't 16 octets, or a prefix isn't 8";
+const REFUSED_13: &str = "refused 13: a plan's text is outside the grammar";
+const REFUSED_14: &str = "refused 14: a plan has too many bytes or nodes";

@@ -1,4 +1,5 @@
-use crate::{answer, hall, misuses, text};
+use crate::plan::most;
+use crate::{answer, file, hall, misuses, text};
 use std::collections::VecDeque;
 use std::fmt::Write as _;
 use std::io::{BufRead, BufReader, Write};
@@ -181,12 +182,74 @@ fn a_long_line_that_cannot_be_read() {
 #[test]
 fn a_closed_pipe_ends_it_quietly() {
     let (requests, _) = grown(100_000);
-    let file = Path::new(env!("CARGO_TARGET_TMPDIR")).join("grown.txt");
-    std::fs::write(&file, requests).unwrap();
+    let file = file("grown.txt", requests);
     let mut child = hall(&["trace".as_ref(), file.as_os_str()]).spawn().unwrap();
     let mut first = String::new();
     BufReader::new(child.stdout.take().unwrap()).read_line(&mut first).unwrap();
     assert_eq!(first, "host of 1: 11\n");
     let got = child.wait_with_output().unwrap();
     assert_eq!((text(&got.stderr), got.status.code()), ("", Some(0)));
+}
+
+const FIGURE_6_PLAN: &str = include_str!("figure-6.plan");
+
+/// The tree of a plan, and that of its requests in the order of the plan, by `tree`.
+#[test]
+fn a_plan_for_a_start() {
+    let plan = file("figure-6.plan", FIGURE_6_PLAN);
+    let requests = FIGURE_6.lines().filter(|line| line.starts_with("router ") || line.starts_with("host ")).take(12);
+    let grown = traced(&(requests.collect::<Vec<_>>().join("\n") + "\ntree\n"));
+    let tree = grown.split_once("tree\n").unwrap().1;
+    let got = answer(&["trace".as_ref(), "--plan".as_ref(), plan.as_os_str()], "tree\n");
+    assert_eq!((text(&got.stdout), text(&got.stderr), got.status.code()), (format!("tree\n{tree}").as_str(), "", Some(0)));
+}
+
+#[test]
+fn a_trace_goes_on_from_a_plan() {
+    let plan = file("on.plan", "R(R(H)H)\n");
+    let lines = "send 101 11\nhost 10\nrouter 1\nhost 1\nhost 11\nsend 1011 111\nsend 10 1110\n";
+    let expected = "\
+send 101 to 11: 101 10 1 11 delivered, 3 hops
+host of 10: 1011
+router of 1: 110
+host of 1: 111
+host of 11: refused 2
+send 1011 to 111: 1011 10 1 111 delivered, 3 hops
+send 10 to 1110: 10 1 refused 7, 1 hop
+";
+    let got = answer(&["trace".as_ref(), "--plan".as_ref(), plan.as_os_str()], lines);
+    assert_eq!((text(&got.stdout), text(&got.stderr), got.status.code()), (expected, "", Some(0)));
+    let got = answer(&["trace".as_ref(), "--plan".as_ref(), plan.as_os_str(), "-".as_ref()], lines);
+    assert_eq!(text(&got.stdout), expected);
+    let lines = file("on.txt", lines);
+    let got = answer(&["trace".as_ref(), "--plan".as_ref(), "-".as_ref(), lines.as_os_str()], "R(R(H)H)");
+    assert_eq!((text(&got.stdout), text(&got.stderr), got.status.code()), (expected, "", Some(0)));
+}
+
+#[test]
+fn a_plan_of_512_nodes_for_a_start() {
+    let plan = file("512.plan", most());
+    let got = answer(&["trace".as_ref(), "--plan".as_ref(), plan.as_os_str()], "tree\n");
+    let listed = answer(&["plan".as_ref(), plan.as_os_str()], "");
+    let addresses = |shown: &str| -> Vec<String> {
+        let mut addresses: Vec<String> = shown.lines().skip(1).map(|line| line.trim_start().split(' ').next().unwrap().into()).collect();
+        addresses.sort();
+        addresses
+    };
+    assert_eq!(addresses(text(&got.stdout)), addresses(text(&listed.stdout)));
+    assert_eq!(addresses(text(&got.stdout)).len(), 512);
+}
+
+#[test]
+fn plans_that_cannot_be_read() {
+    misuses("trace --plan", "a plan's file behind --plan");
+    misuses("trace --plan one two three", "one file, or none for standard input");
+    misuses("trace --plan -", "a file for the plan or for the trace");
+    misuses("trace --plan - -", "a file for the plan or for the trace");
+    let plan = file("alone.plan", "R()");
+    for words in [["no/such/plan", "-"], [plan.to_str().unwrap(), "no/such/trace"]] {
+        let got = answer(&["trace", "--plan", words[0], words[1]], "tree\n");
+        assert_eq!((text(&got.stdout), got.status.code()), ("", Some(2)));
+        assert!(text(&got.stderr).starts_with("hall: cannot read no/such/"), "{}", text(&got.stderr));
+    }
 }

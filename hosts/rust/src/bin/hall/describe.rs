@@ -1,21 +1,42 @@
 //! What is shown of an address that was read.
 use pasa::Address;
+use std::fmt;
 use std::io::{self, Write};
 
-fn kind(address: Address) -> &'static str {
-    if address == Address::ROOT {
-        "root"
-    } else if address.is_host() {
-        "host"
-    } else {
-        "router"
+/// What an address is by itself.
+#[derive(Clone, Copy, PartialEq, Eq)]
+pub enum Kind {
+    Root,
+    Router,
+    Host,
+}
+
+impl Kind {
+    pub fn of(address: Address) -> Kind {
+        if address == Address::ROOT {
+            Kind::Root
+        } else if address.is_host() {
+            Kind::Host
+        } else {
+            Kind::Router
+        }
+    }
+}
+
+impl fmt::Display for Kind {
+    fn fmt(&self, f: &mut fmt::Formatter<'_>) -> fmt::Result {
+        f.pad(match self {
+            Kind::Root => "root",
+            Kind::Router => "router",
+            Kind::Host => "host",
+        })
     }
 }
 
 /// A line each for the address, its kind, its depth and its parent.
 pub fn describe(address: Address, out: &mut dyn Write) -> io::Result<()> {
     writeln!(out, "address {address} ({:#x})", address.number())?;
-    writeln!(out, "kind    {}", kind(address))?;
+    writeln!(out, "kind    {}", Kind::of(address))?;
     writeln!(out, "depth   {}", address.depth())?;
     match address.parent() {
         Some(parent) => writeln!(out, "parent  {parent}"),

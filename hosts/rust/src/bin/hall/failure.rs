@@ -7,6 +7,8 @@ use std::process::ExitCode;
 pub enum Failure {
     /// A refusal of the papers.
     Refused(Refusal),
+    /// A refusal of a text, and the lines that show where.
+    Fault { refusal: Refusal, shown: String },
     /// What was expected, and the lines that show the usage.
     Usage { expected: String, usage: &'static str },
     /// A line of a trace, counted from 1, and what was expected there.
@@ -27,7 +29,7 @@ impl Failure {
         // where standard error is closed too, the exit status has to do
         let _ = writeln!(io::stderr(), "{self}");
         match self {
-            Failure::Refused(_) => ExitCode::from(1),
+            Failure::Refused(_) | Failure::Fault { .. } => ExitCode::from(1),
             _ => ExitCode::from(2),
         }
     }
@@ -37,6 +39,7 @@ impl fmt::Display for Failure {
     fn fmt(&self, f: &mut fmt::Formatter<'_>) -> fmt::Result {
         match self {
             Failure::Refused(refusal) => write!(f, "{refusal}"),
+            Failure::Fault { refusal, shown } => write!(f, "{refusal}\n{shown}"),
             Failure::Usage { expected, usage } => write!(f, "hall: expected {expected}\n{usage}"),
             Failure::BadInput { line, expected } => write!(f, "bad input at line {line}\nexpected {expected}"),
             Failure::Unreadable { name, error } => write!(f, "hall: cannot read {name}: {error}"),

@@ -18,6 +18,16 @@ pub fn open(word: &OsStr) -> Result<(Box<dyn Read>, String), Failure> {
     }
 }
 
+/// The first octets of what a word names, so many at most.
+pub fn front(word: &OsStr, most: usize) -> Result<Vec<u8>, Failure> {
+    let (source, name) = open(word)?;
+    let mut octets = Vec::new();
+    match source.take(most as u64).read_to_end(&mut octets) {
+        Ok(_) => Ok(octets),
+        Err(error) => Err(Failure::Unreadable { name, error }),
+    }
+}
+
 /// All of standard input.
 pub fn text() -> Result<String, Failure> {
     let mut octets = Vec::new();

@@ -1,7 +1,8 @@
-//! `hall`: paths, next hops, headers, IPv6 forms and whole trees on the command line. Every address and every hop that it prints is the
-//! answer of a proved function of libpasa.a; the text around them is this program's. docs/HALL.md describes it.
+//! `hall`: paths, next hops, headers, IPv6 forms, hall plans and whole trees on the command line. Every address and every hop that it prints is
+//! the answer of a proved function of libpasa.a; the text around them is this program's. docs/HALL.md describes it.
 mod commands;
 mod describe;
+mod draw;
 mod failure;
 mod header;
 mod hex;
@@ -9,6 +10,7 @@ mod input;
 mod ipv6;
 mod next;
 mod path;
+mod plan;
 mod text;
 mod trace;
 

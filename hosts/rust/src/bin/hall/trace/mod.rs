@@ -1,4 +1,5 @@
-//! `hall trace [FILE]`: grows a tree from a list of requests and shows the way of packets through it.
+//! `hall trace [--plan PLAN] [FILE]`: grows a tree from a list of requests, beginning with the root or with a plan's hall, and shows the way of
+//! packets through it.
 //!
 //! Every address is `Node::router_child`'s or `Node::host_child`'s answer, every packet is a header that `write_header` wrote, and every hop
 //! is `packet_next_hop`'s answer with the record of the node that the packet has reached.
@@ -7,19 +8,23 @@ mod tree;
 mod way;
 
 use crate::commands::{wrong, Command};
-use crate::{input, Done, Failure};
+use crate::{input, plan, Done, Failure};
 use line::{Kind, Line};
 use pasa::Address;
 use std::ffi::{OsStr, OsString};
 use std::io::{self, BufRead, BufReader, Read, Write};
 use tree::Tree;
 
-const USAGE: &str = "usage: hall trace [FILE]";
+const USAGE: &str = "\
+usage: hall trace [FILE]
+       hall trace --plan PLAN [FILE]";
 
 pub const COMMAND: Command = Command {
     name: "trace",
     usage: USAGE,
-    list: "  trace [FILE]              grow a tree from requests, and send packets through it\n",
+    list: "  trace [FILE]              grow a tree from requests, and send packets through it
+  trace --plan PLAN [FILE]  the same, beginning with the hall of a plan
+",
     help: "\
 Reads commands from FILE or from standard input, one a line, and answers each. The tree
 begins with the root, 1, alone; addresses are binary digits.
@@ -38,22 +43,49 @@ line K' on standard error, exit status 2.
     host of 1: 11
     send 10 to 11: 10 1 11 delivered, 2 hops
     router of 11: refused 2
+
+With --plan the tree begins with the nodes of a hall plan, as they stand after the plan's
+own requests. PLAN is read as 'hall plan' reads it; - is standard input for one of both.
+
+    $ echo 'R(R(H)H)' > hall.plan
+    $ printf 'send 101 11\\nhost 10\\n' | hall trace --plan hall.plan
+    send 101 to 11: 101 10 1 11 delivered, 3 hops
+    host of 10: 1011
 ",
     run,
 };
 
+const STANDARD: &str = "-";
+
 fn run(words: &[OsString], out: &mut dyn Write) -> Done {
-    let word = match words {
-        [] => OsStr::new("-"),
-        [word] => word,
-        _ => return Err(wrong(USAGE, "one file, or none for standard input")),
+    let (plan, file) = files(words)?;
+    let tree = match plan {
+        Some(plan) => Tree::of_plan(&plan::read(plan)?),
+        None => Tree::new(),
     };
-    let (source, name) = input::open(word)?;
-    obey_all(BufReader::with_capacity(1 << 16, source), &name, out)
+    let (source, name) = input::open(file)?;
+    obey_all(BufReader::with_capacity(1 << 16, source), &name, tree, out)
 }
 
-fn obey_all(mut input: BufReader<Box<dyn Read>>, name: &str, out: &mut dyn Write) -> Done {
-    let mut tree = Tree::new();
+/// The words that name the plan, if there is one, and the trace.
+fn files(words: &[OsString]) -> Result<(Option<&OsStr>, &OsStr), Failure> {
+    let (plan, rest): (Option<&OsStr>, _) = match words {
+        [option, plan, rest @ ..] if option == "--plan" => (Some(plan), rest),
+        [option] if option == "--plan" => return Err(wrong(USAGE, "a plan's file behind --plan")),
+        rest => (None, rest),
+    };
+    let file = match rest {
+        [] => OsStr::new(STANDARD),
+        [file] => file,
+        _ => return Err(wrong(USAGE, "one file, or none for standard input")),
+    };
+    if plan == Some(OsStr::new(STANDARD)) && file == STANDARD {
+        return Err(wrong(USAGE, "a file for the plan or for the trace: standard input holds only one of them"));
+    }
+    Ok((plan, file))
+}
+
+fn obey_all(mut input: BufReader<Box<dyn Read>>, name: &str, mut tree: Tree, out: &mut dyn Write) -> Done {
     let mut text = Vec::new();
     let mut number = 0;
     while next_line(&mut input, &mut text, name, out)? {

@@ -1,0 +1,120 @@
+use crate::plan::most;
+use crate::xml::{self, Element};
+use crate::{answer, file, text};
+
+fn drawn(plan: &str) -> String {
+    let got = answer(&["draw", "-"], plan);
+    assert_eq!((text(&got.stderr), got.status.code()), ("", Some(0)), "for {plan}");
+    text(&got.stdout).to_string()
+}
+
+/// A root with 62 routers and 62 hosts, and 63 groups one in the other with hosts beside them.
+fn broad_and_deep() -> [String; 2] {
+    let broad = format!("R({})", "R()H".repeat(62));
+    let deep = format!("{}R(){}", "R(H".repeat(62), ")".repeat(62));
+    [broad, deep]
+}
+
+/// The nodes of a picture: each is a group that begins with its title.
+fn nodes(picture: &Element) -> impl Iterator<Item = &Element> {
+    picture.children.iter().filter(|element| element.children.first().is_some_and(|child| child.name == "title"))
+}
+
+/// What is under the pointer at each node.
+fn titles(picture: &Element) -> Vec<String> {
+    nodes(picture).map(|node| node.children[0].text.clone()).collect()
+}
+
+#[test]
+fn the_example() {
+    let picture = xml::read(&drawn("R(R(H)H)\n"));
+    assert_eq!(
+        titles(&picture),
+        ["1: root, depth 0, parent none", "10: router, depth 1, parent 1", "101: host, depth 2, parent 10", "11: host, depth 1, parent 1"]
+    );
+    let shown: Vec<String> = picture.named("text").iter().map(|text| text.whole_text()).collect();
+    for expected in
+        ["Hall of 4 nodes", "the root, 1 router and 2 hosts, down to depth 2", "root", "router", "host", "depth", "1", "10", "101"]
+    {
+        assert!(shown.iter().any(|text| text == expected), "no '{expected}' in {shown:?}");
+    }
+    // each kind has a sign of its own, once more in the legend; the ground is a rectangle too, and so is that of each level's number
+    assert_eq!(picture.named("circle").len(), 2 + 1);
+    assert_eq!(picture.named("rect").len(), 1 + 1 + 1 + 3);
+    let diamonds = picture.named("path").iter().filter(|path| path.attribute("d").unwrap().ends_with('Z')).count();
+    assert_eq!(diamonds, 1 + 1);
+    // a link for each node but the root, and a line for each level
+    assert_eq!(picture.named("path").len() - diamonds, 3 + 3);
+}
+
+#[test]
+fn every_node_has_a_title_and_its_address() {
+    let [broad, deep] = broad_and_deep();
+    for (plan, count) in [("R()", 1), (&most(), 512), (&broad, 125), (&deep, 125)] {
+        let picture = xml::read(&drawn(plan));
+        let listed = answer(&["plan", "-"], plan);
+        let addresses: Vec<&str> = text(&listed.stdout).lines().skip(1).map(|line| line.split(' ').next().unwrap()).collect();
+        let titles = titles(&picture);
+        assert_eq!((titles.len(), picture.named("title").len()), (count, count + 1));
+        let of_titles = titles.iter().map(|title| title.split(':').next().unwrap());
+        assert!(of_titles.eq(addresses.iter().copied()), "{titles:?}");
+        assert!(nodes(&picture).map(|node| node.named("text")[0].whole_text()).eq(addresses.iter().copied()));
+    }
+}
+
+/// A text's left and right ends, if its letters are not wider than those of the usual fonts, and its baseline.
+fn extent(text: &Element, anchor: Option<&str>) -> (usize, usize, usize) {
+    let (x, y) = (text.number("x"), text.number("y"));
+    let size = text.attribute("font-size").map_or(13, |size| size.parse().unwrap());
+    let width = (text.whole_text().len() * size * 61).div_ceil(100);
+    match text.attribute("text-anchor").or(anchor) {
+        Some("middle") => (x - width / 2, x + width / 2, y),
+        _ => (x, x + width, y),
+    }
+}
+
+/// Every text of a picture with its extent.
+fn texts(picture: &Element) -> Vec<(usize, usize, usize)> {
+    let in_groups = picture.children.iter().flat_map(|group| {
+        let anchor = group.attribute("text-anchor");
+        group.named("text").into_iter().map(move |text| extent(text, anchor))
+    });
+    in_groups.collect()
+}
+
+#[test]
+fn no_text_meets_another_or_the_edge() {
+    let [broad, deep] = broad_and_deep();
+    for plan in ["R()", "R(R(H)H)", &most(), &broad, &deep] {
+        let picture = xml::read(&drawn(plan));
+        let (width, height) = (picture.number("width"), picture.number("height"));
+        assert_eq!(picture.attribute("viewBox"), Some(format!("0 0 {width} {height}").as_str()));
+        let mut texts = texts(&picture);
+        texts.sort_by_key(|text| text.2);
+        for (i, (left, right, y)) in texts.iter().enumerate() {
+            assert!(*right <= width && *y + 4 <= height, "a text at {left}, {y} leaves the picture of {plan}");
+            for (other_left, other_right, _) in texts[i + 1..].iter().take_while(|other| other.2 < y + 13) {
+                assert!(right <= other_left || other_right <= left, "texts meet at {left}, {y} in the picture of {plan}");
+            }
+        }
+    }
+}
+
+#[test]
+fn a_picture_needs_nothing_else() {
+    let picture = drawn(&most());
+    let without_namespace = picture.replacen("http://www.w3.org/2000/svg", "", 1);
+    for word in ["script", "href", "url(", "http", "style", "<image", "<!"] {
+        assert!(!without_namespace.contains(word), "{word} in the picture");
+    }
+}
+
+#[test]
+fn a_picture_is_the_same_each_time() {
+    let plan = most();
+    let first = drawn(&plan);
+    assert_eq!(drawn(&plan), first);
+    assert_eq!(drawn(&(plan.clone() + "\n")), first);
+    let got = answer(&["draw".as_ref(), file("most.plan", &plan).as_os_str()], "");
+    assert_eq!(text(&got.stdout), first);
+}
