@@ -6,6 +6,8 @@ use mathlib.Core.Bool.{true}
 use mathlib.Core.Logic.{_⊎_, inl, inr, ⊎-elim, _↔_}
 use native.Mathlib.Nat.{add-zero}
 use native.Mathlib.Omega.{arith}
+use native.Mathlib.Numerals.{add-one}
+use borrow.Author.Tests.{eq-eqb, ne-eqb}
 use lib.Dec.{lit≤}
 use lib.ListN.{length}
 use Rattle.address.specs.Bits.{Bit, O, I, lastBit, bitsIn, bits, digit, numberFrom, number}
@@ -85,7 +87,7 @@ use Rattle.plan.proofs.WrongRules.{refusesAll-refuted as refusesAllPlans-refute
 use Rattle.plan.proofs.Promises.{read-asks-nothing as plan-read-asks-nothing}
 use Rattle.known.specs.Known.{table}
 use Rattle.known.proofs.Proved.{known-values}
-use Rattle.tree.specs.Tree.{Request, request, Tree, bareRoot, grow, grown, InTree, Walk, here, along}
+use Rattle.tree.specs.Tree.{Request, request, Tree, bareRoot, recordOf, replaced, answered, askedOf, ask, grow, grown, givenBy, givenIn, addresses as addressesOf, InTree, Walk, here, along}
 use Rattle.tree.proofs.Runs.{grown-snoc, ask-given, ask-refused, ask-nobody}
 use Rattle.tree.specs.Demand3.{Arrives}
 use Rattle.packet.specs.Packet.{packetHop}
@@ -96,13 +98,13 @@ use Rattle.tree.proofs.WrongHops.{refusesEverything-refuted, parentToAll-refute
 use Rattle.pasa.proofs.Promises.{node-of-promise as pasa-node-of-promise, node-of-asks-nothing as pasa-node-of-asks-nothing, fresh-promise as pasa-fresh-promise, child-router-promise as pasa-child-router-promise, child-host-promise as pasa-child-host-promise, next-hop-promise as pasa-next-hop-promise, packet-next-hop-promise as pasa-packet-next-hop-promise, next-hops-promise as pasa-next-hops-promise, header-write-promise as pasa-header-write-promise, header-read-promise as pasa-header-read-promise, ipv6-write-promise as pasa-ipv6-write-promise, ipv6-read-promise as pasa-ipv6-read-promise, path-promise as pasa-path-promise, plan-read-promise as pasa-plan-read-promise, plan-read-asks-nothing as pasa-plan-read-asks-nothing, fresh-asks-nothing as pasa-fresh-asks-nothing, child-router-asks-nothing as pasa-child-router-asks-nothing, child-host-asks-nothing as pasa-child-host-asks-nothing, next-hop-asks-nothing as pasa-next-hop-asks-nothing, packet-next-hop-asks-nothing as pasa-packet-next-hop-asks-nothing, next-hops-asks-nothing as pasa-next-hops-asks-nothing, header-write-asks-nothing as pasa-header-write-asks-nothing, header-read-asks-nothing as pasa-header-read-asks-nothing, ipv6-write-asks-nothing as pasa-ipv6-write-asks-nothing, ipv6-read-asks-nothing as pasa-ipv6-read-asks-nothing, path-asks-nothing as pasa-path-asks-nothing}
 use Rattle.pasa.proofs.AddressPromises.{parent-promise as pasa-parent-promise, depth-promise as pasa-depth-promise, bit-length-promise as pasa-bit-length-promise, is-host-promise as pasa-is-host-promise, interface-promise as pasa-interface-promise, parent-asks-nothing as pasa-parent-asks-nothing, depth-asks-nothing as pasa-depth-asks-nothing, bit-length-asks-nothing as pasa-bit-length-asks-nothing, is-host-asks-nothing as pasa-is-host-asks-nothing, interface-asks-nothing as pasa-interface-asks-nothing}
 use Rattle.claims.specs.Addresses.{Addresses, Children}
-use Rattle.claims.specs.Demand1.{ExactlyWhen, NothingBeside, OnlyTheNamed}
+use Rattle.claims.specs.Demand1.{ExactlyWhen, NothingBeside, PlaceOfThirteen, OnlyTheNamed}
 use Rattle.claims.specs.Demand2.{Headers, Forms}
-use Rattle.claims.specs.Demand3.{treeOf, Growth, EveryList}
+use Rattle.claims.specs.Demand3.{treeOf, Growth, TreeWords, EveryList}
 use Rattle.claims.specs.NextHop.{HopAnswers, NextHop}
 use Rattle.claims.specs.Paths.{ThePath, exampleLine, exampleText, refusal11, hopsWord, binary, eachOnALine, TheLine}
 use Rattle.claims.specs.Structs.{Cases, OneAnswer, Fields}
-use Rattle.claims.specs.Excluded.{KnownRows, WrongNextHops, WrongChildren, WrongPlanRules, WrongWritersAndReaders, HoldOfOurs}
+use Rattle.claims.specs.Excluded.{KnownRows, WrongNextHops, WrongChildren, OnePlanRule, WrongPlanRules, WrongWritersAndReaders, HoldOfOurs}
 use Rattle.claims.specs.Code.{AsksNothing, AnswersAsDefined}
 use Rattle.claims.specs.Exports.{ExportsAskNothing, ExportsAnswerAsDefined}
 
@@ -241,9 +243,10 @@ nothing-beside = record {
   aPath = path-refusals .beside;
   aLine = answer-refusals .beside;
   aPlan = plan-refusals .beside;
-  aPlansPlace = plan-refusals .place;
-  noOtherPlace = plan-refusals .noPlace;
 }
+
+pub place-of-thirteen : PlaceOfThirteen
+place-of-thirteen = record { itsPlace = plan-refusals .place; noOther = plan-refusals .noPlace }
 
 pub only-the-named : OnlyTheNamed
 only-the-named = record {
@@ -310,6 +313,27 @@ growth = record {
   given = λ rs a n kind e z. grown-snoc childOf rs (request a kind) ∙ ask-given childOf (treeOf rs) a kind n e z;
   refused = λ rs a n kind e z. grown-snoc childOf rs (request a kind) ∙ ask-refused childOf (treeOf rs) a kind n e z;
   nobody = λ rs a kind e. grown-snoc childOf rs (request a kind) ∙ ask-nobody childOf (treeOf rs) a kind e;
+}
+
+pub tree-words : TreeWords
+unfolding addressesOf recordOf replaced ask askedOf answered grow givenIn givenBy bareRoot
+tree-words = record {
+  inOrder = λ t. refl;
+  recordOfNone = λ a. refl;
+  recordOfThis = λ a n t e. rw (eq-eqb (addressIn n) a e);
+  recordOfOther = λ a n t e. rw (ne-eqb (addressIn n) a e);
+  replacedInNone = λ a m. refl;
+  replacedThis = λ a m n t e. rw (eq-eqb (addressIn n) a e);
+  replacedOther = λ a m n t e. rw (ne-eqb (addressIn n) a e);
+  repliedStanding = λ t a kind n e. rw e;
+  repliedAbsent = λ t a kind e. rw e;
+  repliedNone = λ t. refl;
+  repliedOneByOne = λ t r rs. refl;
+  given = λ rs. refl;
+  givenNone = refl;
+  givenChild = λ a rs. refl;
+  givenRefused = λ k a rs. rw add-one;
+  givenNobody = λ rs. refl;
 }
 
 pub every-list : EveryList
@@ -454,9 +478,11 @@ wrong-children = record {
   withAnAddressBeside = addressBeside-refuted;
 }
 
+pub one-plan-rule : OnePlanRule
+one-plan-rule = record { ours = one-rule }
+
 pub wrong-plan-rules : WrongPlanRules
 wrong-plan-rules = record {
-  oneRule = one-rule;
   thatRefusesAll = refusesAllPlans-refuted;
   withGrammarFirst = grammarFirst-refuted;
   withNodesFirst = nodesFirst-refuted;
@@ -466,7 +492,7 @@ wrong-plan-rules = record {
   thatWritesWithoutRoom = writesWithoutRoom-refuted;
   thatWritesTheRoot = writesRoot-refuted;
   withRootUncounted = rootUncounted-refuted;
-  unlimited = unlimited-refuted;
+  withGroupsUnlimited = unlimited-refuted;
   withRoutersLate = routersLate-refuted;
 }
 
@@ -612,16 +638,16 @@ one-answer = record { anAddress = one-made; aHeader = one-reading; aForm = one-f
 pub fields : Fields
 unfolding nodeOf pasaNode pasaChild pasaHop actionNumber pasaWritten pasaRead pasaAddress pasaListed pasaPlan hostAnswer
 fields = record {
-  taken = λ r. (refl, refl, refl);
-  node = λ n. (refl, refl, refl);
-  child = λ g. (refl, refl, refl);
-  hop = λ r. (refl, refl, refl);
+  taken = λ r. refl;
+  node = λ n. refl;
+  child = λ g. refl;
+  hop = λ r. refl;
   action = (refl, refl, refl, refl);
-  written = λ w. (refl, refl);
-  read = λ r. (refl, refl, refl);
-  address = λ r. (refl, refl);
-  listed = λ l. (refl, refl);
-  plan = λ p. (refl, refl, refl);
+  written = λ w. refl;
+  read = λ r. refl;
+  address = λ r. refl;
+  listed = λ l. refl;
+  plan = λ p. refl;
   isAHost = λ a e. rw e;
   isNoHost = λ a e. rw e;
   interfaceNumber = refl;

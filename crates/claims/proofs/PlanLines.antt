@@ -1,7 +1,7 @@
 -- The front page's lines on a hall's plan, each taken from the record that carries it. Assumes nothing.
 use Prim.Native.Nat.{ℕ, suc, _+_, _≤_}
 use mathlib.Core.Path.{_≡_, refl, sym, ap, ap₂, subst, _∙_}
-use mathlib.Core.Logic.{_↔_}
+use mathlib.Core.Logic.{_⊎_, inl, inr}
 use mathlib.Core.List.{List, [], _∷_, _++_, map, List·Memᴰ}
 use native.Mathlib.Numerals.{add-one}
 use native.Mathlib.Omega.{arith}
@@ -11,8 +11,8 @@ use lib.Seq.{take-append-seam, drop-append-seam}
 use Rattle.node.specs.Node.{fresh, childOf}
 use Rattle.tree.specs.Tree.{grown, addresses, AllDiffer}
 use Rattle.tree.proofs.Theorem.{demand-3}
-use Rattle.plan.specs.Grammar.{Items, itemsText, planText, groupsOpen, Spells}
-use Rattle.plan.specs.Hall.{nodes, hall}
+use Rattle.plan.specs.Grammar.{Items, none, host, router, itemsText, planText, groupsOpen, Spells}
+use Rattle.plan.specs.Hall.{answers, nodes, hall}
 use Rattle.plan.specs.Reading.{whole, reading}
 use Rattle.plan.specs.Plan.{missing, listed, judged, planning}
 use Rattle.plan.proofs.Exact.{grammar, exactly-the-grammar}
@@ -24,11 +24,18 @@ use Rattle.halls.proofs.ExampleLaws.{small-hall}
 use Rattle.halls.proofs.Counts.{nodes-letters}
 use Rattle.halls.proofs.Planned.{planned-halls}
 use Rattle.halls.proofs.Theorem.{halls-read}
-use Rattle.claims.specs.Plans.{TheText, TheHall, AHall, HallsRead}
+use Rattle.claims.specs.Plans.{TheText, TheHall, AHall, WhatIsRead}
+
+no-other-item : (items : Items)
+    → (items ≡ none) ⊎ ((behind : Items) × (items ≡ host behind)) ⊎ ((group : Items) × (behind : Items) × (items ≡ router group behind))
+no-other-item none = inl refl
+no-other-item (host behind) = inr (inl (behind, refl))
+no-other-item (router group behind) = inr (inr (group, behind, refl))
 
 pub the-text : TheText
 unfolding itemsText planText groupsOpen
 the-text = record {
+  noOtherItem = no-other-item;
   ofNoItem = refl;
   ofAHost = λ behind. refl;
   ofARouter = λ group behind. refl;
@@ -66,7 +73,7 @@ unfolding planning judged listed missing
 small-planning = rw small-reading
 
 pub the-hall : TheHall
-unfolding requestsIn requests letters repliesTo
+unfolding requestsIn requests letters repliesTo answers hall
 the-hall = record {
   ofNoItem = λ n. refl;
   ofAHost = λ n behind. refl;
@@ -75,8 +82,14 @@ the-hall = record {
   letterByLetter = planned-halls .text;
   letterR = λ text. refl;
   letterH = λ text. refl;
-  noLetter = λ o text r h. (other-byte o text r h, refl);
+  otherByte = other-byte;
+  noByte = refl;
   counted = λ plan. (nodes-letters plan, grammar .counted plan);
+  rootFirst = λ plan. refl;
+  answeredNone = λ n. refl;
+  answeredHost = λ n behind. refl;
+  answeredRouter = λ n group behind. refl;
+  refusedInBoth = planned-halls .tooLong;
   isATree = λ plan free. planned-halls .tree plan (λ long. free (planned-halls .tooLong plan .0 long));
   example = small-planning;
 }
@@ -88,10 +101,10 @@ front all l words k e w = (
   ap₂ (λ (i : ℕ) (a : List ℕ). drop i a) e w ∙ drop-append-seam l (drop k words),
 )
 
-pub halls-are-read : HallsRead
+pub what-is-read : WhatIsRead
 unfolding repliesTo
-halls-are-read = record {
-  whatIsRead = λ text words z.
+what-is-read = record {
+  aHall = λ text words z.
       let read = halls-read .without text words z in
       let counted = plan-refusals .without text words z in
       let listed = read .2 in
@@ -108,5 +121,5 @@ halls-are-read = record {
         differ = subst AllDiffer (sym (parts .0 ∙ listed .demand3 .nodes)) (listed .demand3 .differ);
         demand3 = listed .demand3;
       };
-  three = halls-read .tooLong;
+  tooLong = halls-read .tooLong;
 }

@@ -17,13 +17,14 @@ use Rattle.ipv6.specs.Form.{form, formWriting, formReading}
 use Rattle.node.specs.Node.{addressIn, fresh, count, childOf}
 use Rattle.node.specs.Refusals.{IsBad}
 use Rattle.node.specs.declared.Node.{Node}
+use Rattle.node.specs.declared.Given.{Given}
 use Rattle.forward.specs.Forward.{stop, nextHop}
 use Rattle.forward.specs.Refusals.{ChildNotGiven}
 use Rattle.packet.specs.Packet.{packetHop}
 use Rattle.route.specs.Path.{path, listing}
 use Rattle.line.specs.Line.{outputText, answering}
 use Rattle.plan.specs.Grammar.{Items, Spells, IsText, Stops}
-use Rattle.plan.specs.Hall.{refusalOf, answers, hall, nodes}
+use Rattle.plan.specs.Hall.{answers, hall, nodes}
 use Rattle.plan.specs.Plan.{planning}
 
 -- "is given exactly when that document says"
@@ -109,7 +110,7 @@ pub record ExactlyWhen : Type 0 where
       14 when 4096 < length text
       otherwise 13 when (IsText text → ⊥)
       otherwise 14 when ((plan : Items) × Spells text plan × (512 < nodes plan))
-      otherwise 3 when ((plan : Items) × Spells text plan × List·Memᴰ 3 (map refusalOf (answers (fresh 1) plan)))
+      otherwise 3 when ((plan : Items) × Spells text plan × List·Memᴰ 3 (map (λ (g : Given). g .refusal) (answers (fresh 1) plan)))
       otherwise 10 when ((plan : Items) × Spells text plan × (length words < nodes plan))
       otherwise done
       ) (planning text words .answer .refusal)
@@ -131,12 +132,14 @@ pub record NothingBeside : Type 0 where
       → (listing a d words .answer .hops ≡ 0) × (listing a d words .words ≡ words)
   pub aLine : (input out : List ℕ) → (answering input out .answer .refusal ≡ 0 → ⊥)
       → (answering input out .answer .count ≡ 0) × (answering input out .buffer ≡ out)
-  -- of a plan: "13, with the place of the first byte with which the text stops being the start of any text of the grammar, or the text's length if
-  -- it ends early .. This place amends document 01's rule on refusals."
   pub aPlan : (text words : List ℕ) → (planning text words .answer .refusal ≡ 0 → ⊥)
       → (planning text words .answer .nodes ≡ 0) × (planning text words .words ≡ words)
-  pub aPlansPlace : (text words : List ℕ) → planning text words .answer .refusal ≡ 13 → Stops text (planning text words .answer .place)
-  pub noOtherPlace : (text words : List ℕ) → (planning text words .answer .refusal ≡ 13 → ⊥) → planning text words .answer .place ≡ 0
+
+-- "13, with the place of the first byte with which the text stops being the start of any text of the grammar, or the text's length if it ends
+-- early .. This place amends document 01's rule on refusals." `Stops` is written out on the page Plans.
+pub record PlaceOfThirteen : Type 0 where
+  pub itsPlace : (text words : List ℕ) → planning text words .answer .refusal ≡ 13 → Stops text (planning text words .answer .place)
+  pub noOther : (text words : List ℕ) → (planning text words .answer .refusal ≡ 13 → ⊥) → planning text words .answer .place ≡ 0
 
 -- "On success only the words or octets named are written.": they stand in front, what is lent goes on behind them as it was
 pub record OnlyTheNamed : Type 0 where

@@ -1,8 +1,8 @@
 -- Demand 3, sentence by sentence: "Take every list of requests for a child, refused ones included, from a bare root, each node going on from the
 -- record it was last given back, none removed." `rs` is such a list, and `treeOf rs` the tree after it, with the records as they then stand.
-use Prim.Native.Nat.{ℕ, _≤_}
+use Prim.Native.Nat.{ℕ, _+_, _≤_}
 use mathlib.Core.Path.{_≡_}
-use mathlib.Core.List.{List, [], _∷_, _++_}
+use mathlib.Core.List.{List, [], _∷_, _++_, map}
 use lib.ListN.{length}
 use Rattle.address.specs.Bits.{root}
 use Rattle.address.specs.Address.{depth}
@@ -11,10 +11,10 @@ use Rattle.octets.specs.Octets.{AreOctets}
 use Rattle.header.specs.Header.{header}
 use Rattle.address.specs.declared.Kind.{Kind}
 use Rattle.node.specs.declared.Node.{Node}
-use Rattle.node.specs.Node.{fresh, childOf}
+use Rattle.node.specs.Node.{addressIn, fresh, childOf}
 use Rattle.packet.specs.Packet.{packetHop}
 use Rattle.route.specs.Path.{path}
-use Rattle.tree.specs.Tree.{Request, request, Tree, standing, absent, recordOf, replaced, grown, givenIn, addresses, InTree, AllDiffer, Walk}
+use Rattle.tree.specs.Tree.{Request, request, Tree, standing, absent, recordOf, replaced, Reply, replied, nobody, ask, grow, grown, givenBy, givenIn, addresses, InTree, AllDiffer, Walk}
 use Rattle.tree.specs.Way.{IsPacket, TheWay, deliveredAt, stoppedAt}
 use Rattle.tree.specs.Demand3.{IsAncestor}
 
@@ -41,6 +41,28 @@ pub record Growth : Type 0 where
       → treeOf (rs ++ (request a kind ∷ [])) ≡ replaced a (childOf n kind .node) (treeOf rs)
   -- to anybody else: nothing
   pub nobody : (rs : List Request) (a : ℕ) (kind : Kind) → recordOf a (treeOf rs) ≡ absent → treeOf (rs ++ (request a kind ∷ [])) ≡ treeOf rs
+
+-- who stands in a tree, and in which order; and what the requests of a list are replied
+pub record TreeWords : Type 0 where
+  pub inOrder : (t : Tree) → addresses t ≡ map addressIn t
+  pub recordOfNone : (a : ℕ) → recordOf a [] ≡ absent
+  pub recordOfThis : (a : ℕ) (n : Node) (t : Tree) → addressIn n ≡ a → recordOf a (n ∷ t) ≡ standing n
+  pub recordOfOther : (a : ℕ) (n : Node) (t : Tree) → (addressIn n ≡ a → ⊥) → recordOf a (n ∷ t) ≡ recordOf a t
+  pub replacedInNone : (a : ℕ) (m : Node) → replaced a m [] ≡ []
+  pub replacedThis : (a : ℕ) (m n : Node) (t : Tree) → addressIn n ≡ a → replaced a m (n ∷ t) ≡ m ∷ t
+  pub replacedOther : (a : ℕ) (m n : Node) (t : Tree) → (addressIn n ≡ a → ⊥) → replaced a m (n ∷ t) ≡ n ∷ replaced a m t
+  pub repliedStanding : (t : Tree) (a : ℕ) (kind : Kind) (n : Node) → recordOf a t ≡ standing n
+      → ask childOf t (request a kind) .replies ≡ replied (childOf n kind .refusal) (childOf n kind .child .number) ∷ []
+  pub repliedAbsent : (t : Tree) (a : ℕ) (kind : Kind) → recordOf a t ≡ absent → ask childOf t (request a kind) .replies ≡ nobody ∷ []
+  pub repliedNone : (t : Tree) → grow childOf t [] .replies ≡ []
+  pub repliedOneByOne : (t : Tree) (r : Request) (rs : List Request)
+      → grow childOf t (r ∷ rs) .replies ≡ ask childOf t r .replies ++ grow childOf (ask childOf t r .tree) rs .replies
+  -- the addresses given are those replied with 0
+  pub given : (rs : List Request) → givenIn childOf rs ≡ givenBy (grow childOf (fresh 1 ∷ []) rs .replies)
+  pub givenNone : givenBy [] ≡ []
+  pub givenChild : (a : ℕ) (rs : List Reply) → givenBy (replied 0 a ∷ rs) ≡ a ∷ givenBy rs
+  pub givenRefused : (k a : ℕ) (rs : List Reply) → givenBy (replied (k + 1) a ∷ rs) ≡ givenBy rs
+  pub givenNobody : (rs : List Reply) → givenBy (nobody ∷ rs) ≡ givenBy rs
 
 pub record EveryList : Type 0 where
   -- "The tree after a list is the root and every address given in it without a refusal."

@@ -90,9 +90,12 @@ pub record WrongChildren : Type 0 where
   pub shortOfTheLimit : ChildRefusals shortOfLimit → ⊥
   pub withAnAddressBeside : ChildRefusals addressBeside → ⊥
 
--- demand 1 of a plan leaves no choice, so whatever answers otherwise anywhere is excluded
+-- demand 1 of a plan leaves one rule, so that whatever answers otherwise anywhere is excluded
+pub record OnePlanRule : Type 0 where
+  pub ours : (rule : PlanRule) → PlanRefusals rule → (text words : List ℕ) → rule text words ≡ planning text words
+
+-- some that are
 pub record WrongPlanRules : Type 0 where
-  pub oneRule : (rule : PlanRule) → PlanRefusals rule → (text words : List ℕ) → rule text words ≡ planning text words
   -- "One that refuses everything"
   pub thatRefusesAll : PlanRefusals refusesAllPlans → ⊥
   -- 13 before the first 14; the second 14 before 13; 10 before 3
@@ -108,7 +111,7 @@ pub record WrongPlanRules : Type 0 where
   -- "the root counted": without it
   pub withRootUncounted : PlanRefusals rootUncounted → ⊥
   -- "a 65th open group counts": it does not
-  pub unlimited : PlanRefusals unlimited → ⊥
+  pub withGroupsUnlimited : PlanRefusals unlimited → ⊥
   -- "a router before what its group holds": behind it
   pub withRoutersLate : PlanRefusals routersLate → ⊥
 

@@ -7,6 +7,7 @@ use lib.ListN.{length, take, drop}
 use Rattle.address.specs.declared.Kind.the-variants.{Router, Host}
 use Rattle.node.specs.Node.{addressIn, fresh, childOf}
 use Rattle.node.specs.declared.Node.{Node}
+use Rattle.node.specs.declared.Given.{Given}
 use Rattle.packet.specs.Packet.{packetHop}
 use Rattle.tree.specs.Tree.{request, bareRoot, replied, grow, grown, addresses, AllDiffer}
 use Rattle.tree.specs.Demand3.{Demand3}
@@ -19,6 +20,9 @@ use Rattle.halls.specs.Halls.{kindOf, letters}
 -- "`R(` items `)`, an item being `H` for a host or another `R(` items `)`, with no spaces and possibly no items." In ASCII R is 82, H is 72,
 -- ( is 40 and ) is 41.
 pub record TheText : Type 0 where
+  -- no more items, a host and the items behind it, or a router with the items of its group and the items behind it: nothing else
+  pub noOtherItem : (items : Items)
+      → (items ≡ none) ⊎ ((behind : Items) × (items ≡ host behind)) ⊎ ((group : Items) × (behind : Items) × (items ≡ router group behind))
   pub ofNoItem : itemsText none ≡ []
   pub ofAHost : (behind : Items) → itemsText (host behind) ≡ 72 ∷ itemsText behind
   pub ofARouter : (group behind : Items) → itemsText (router group behind) ≡ 82 ∷ 40 ∷ (itemsText group ++ 41 ∷ itemsText behind)
@@ -57,10 +61,22 @@ pub record TheHall : Type 0 where
   pub letterByLetter : (plan : Items) → letters (planText plan) ≡ Router ∷ map kindOf (requests plan)
   pub letterR : (text : List ℕ) → letters (82 ∷ text) ≡ Router ∷ letters text
   pub letterH : (text : List ℕ) → letters (72 ∷ text) ≡ Host ∷ letters text
-  pub noLetter : (o : ℕ) (text : List ℕ) → (o ≡ 82 → ⊥) → (o ≡ 72 → ⊥) → (letters (o ∷ text) ≡ letters text) × (letters [] ≡ [])
+  pub otherByte : (o : ℕ) (text : List ℕ) → (o ≡ 82 → ⊥) → (o ≡ 72 → ⊥) → letters (o ∷ text) ≡ letters text
+  pub noByte : letters [] ≡ []
   -- "their number", "the root counted"
   pub counted : (plan : Items) → (nodes plan ≡ length (letters (planText plan))) × (length (hall plan) ≡ nodes plan)
-  -- "The addresses in that order, the root first": those of the tree that these requests grow, in the order given, where none is too long
+  -- "The addresses in that order, the root first": what each of these requests is answered, 0 in the place of an address that is refused
+  pub rootFirst : (plan : Items) → hall plan ≡ 1 ∷ map (λ (g : Given). g .child .number) (answers (fresh 1) plan)
+  pub answeredNone : (n : Node) → answers n none ≡ []
+  pub answeredHost : (n : Node) (behind : Items) → answers n (host behind) ≡ childOf n Host ∷ answers (childOf n Host .node) behind
+  pub answeredRouter : (n : Node) (group behind : Items)
+      → answers n (router group behind)
+      ≡ childOf n Router ∷ (answers (fresh (childOf n Router .child .number)) group ++ answers (childOf n Router .node) behind)
+  -- a request is answered 3 there exactly if one is replied 3 in the tree
+  pub refusedInBoth : (plan : Items)
+      → List·Memᴰ 3 (map (λ (g : Given). g .refusal) (answers (fresh 1) plan))
+      ↔ List·Memᴰ (replied 3 0) (grow childOf bareRoot (requests plan) .replies)
+  -- and these are the addresses of the tree that the requests grow, in the order given, where none is too long
   pub isATree : (plan : Items) → (List·Memᴰ (replied 3 0) (grow childOf bareRoot (requests plan) .replies) → ⊥)
       → hall plan ≡ addresses (grown childOf (requests plan))
   -- "`R(R(H)H)` gives 1, 10, 101, 11."
@@ -77,11 +93,11 @@ pub record AHall (text words words′ : List ℕ) (many : ℕ) : Type 0 where
   pub differ : AllDiffer (take many words′)
   pub demand3 : Demand3 childOf packetHop (requests plan)
 
-pub record HallsRead : Type 0 where
-  pub whatIsRead : (text words : List ℕ) → planning text words .answer .refusal ≡ 0
+pub record WhatIsRead : Type 0 where
+  pub aHall : (text words : List ℕ) → planning text words .answer .refusal ≡ 0
       → AHall text words (planning text words .words) (planning text words .answer .nodes)
   -- "Then an address too long: 3.": exactly if one of the plan's requests is refused with 3
-  pub three : (text words : List ℕ)
+  pub tooLong : (text words : List ℕ)
       → (planning text words .answer .refusal ≡ 3)
       ↔ ((length text ≤ 4096)
       × ((plan : Items) × Spells text plan × ((nodes plan ≤ 512) × List·Memᴰ (replied 3 0) (grow childOf bareRoot (requests plan) .replies))))

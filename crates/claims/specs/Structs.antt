@@ -45,18 +45,18 @@ pub record OneAnswer : Type 0 where
   pub aForm : (prefix ipv6 : List ℕ) (r s : Made) → madeAnswer r ≡ formReading prefix ipv6 → madeAnswer s ≡ formReading prefix ipv6 → r ≡ s
   pub aHop : (r s : Hop) → hopAnswer r ≡ hopAnswer s → r ≡ s
 
--- the same numbers in fields of the same names; but `node` of a hop is the node named
+-- the same numbers in fields of the same names, and no field more; but `node` of a hop is the node named
 pub record Fields : Type 0 where
-  pub taken : (r : PasaNode) → (nodeOf r .address .number ≡ r .address) × (nodeOf r .routers ≡ r .routers) × (nodeOf r .hosts ≡ r .hosts)
-  pub node : (n : Node) → (pasaNode n .address ≡ n .address .number) × (pasaNode n .routers ≡ n .routers) × (pasaNode n .hosts ≡ n .hosts)
-  pub child : (g : Given) → (pasaChild g .node ≡ pasaNode (g .node)) × (pasaChild g .child ≡ g .child .number) × (pasaChild g .refusal ≡ g .refusal)
-  pub hop : (r : HopAnswer) → (pasaHop r .node ≡ r .named) × (pasaHop r .refusal ≡ r .refusal) × (pasaHop r .action ≡ actionNumber (r .action))
+  pub taken : (r : PasaNode) → nodeOf r ≡ record { address = record { number = r .address }; routers = r .routers; hosts = r .hosts }
+  pub node : (n : Node) → pasaNode n ≡ record { address = n .address .number; routers = n .routers; hosts = n .hosts }
+  pub child : (g : Given) → pasaChild g ≡ record { node = pasaNode (g .node); child = g .child .number; refusal = g .refusal }
+  pub hop : (r : HopAnswer) → pasaHop r ≡ record { node = r .named; refusal = r .refusal; action = actionNumber (r .action) }
   pub action : (actionNumber stop ≡ 0) × (actionNumber deliver ≡ 1) × (actionNumber toParent ≡ 2) × (actionNumber toChild ≡ 3)
-  pub written : (w : Written) → (pasaWritten w .count ≡ w .count) × (pasaWritten w .refusal ≡ w .refusal)
-  pub read : (r : HeaderAnswer) → (pasaRead r .address ≡ r .address) × (pasaRead r .place ≡ r .place) × (pasaRead r .refusal ≡ r .refusal)
-  pub address : (r : AddressAnswer) → (pasaAddress r .address ≡ r .address) × (pasaAddress r .refusal ≡ r .refusal)
-  pub listed : (l : Listed) → (pasaListed l .hops ≡ l .hops) × (pasaListed l .refusal ≡ l .refusal)
-  pub plan : (p : Planned) → (pasaPlan p .nodes ≡ p .nodes) × (pasaPlan p .place ≡ p .place) × (pasaPlan p .refusal ≡ p .refusal)
+  pub written : (w : Written) → pasaWritten w ≡ record { count = w .count; refusal = w .refusal }
+  pub read : (r : HeaderAnswer) → pasaRead r ≡ record { address = r .address; place = r .place; refusal = r .refusal }
+  pub address : (r : AddressAnswer) → pasaAddress r ≡ record { address = r .address; refusal = r .refusal }
+  pub listed : (l : Listed) → pasaListed l ≡ record { hops = l .hops; refusal = l .refusal }
+  pub plan : (p : Planned) → pasaPlan p ≡ record { nodes = p .nodes; place = p .place; refusal = p .refusal }
   pub isAHost : (a : ℕ) → isHost a ≡ true → hostAnswer a ≡ 1
   pub isNoHost : (a : ℕ) → isHost a ≡ false → hostAnswer a ≡ 0
   pub interfaceNumber : interface ≡ 1
