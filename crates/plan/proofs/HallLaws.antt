@@ -19,17 +19,18 @@ use Rattle.plan.specs.Plan.{missing}
 use Rattle.plan.specs.Progress.{Progress, matched, PartRead, HallRead}
 use Rattle.plan.proofs.Openings.{matched-le}
 use Rattle.plan.proofs.Missing.{missing-append}
-use Rattle.plan.proofs.Moves.{Opens, readFrom-fault, readFrom-end, readFrom-opened, readFrom-unopened}
+use Rattle.plan.proofs.MoveLaws.{starts, moved-move, fault-start}
+use Rattle.plan.proofs.Places.{Opens, place-fault, place-end, readFrom-opened, readFrom-unopened}
 use Rattle.plan.proofs.Parts.{passed, faulty}
 
 abbrev pub begin : Progress
 begin = record { place = 0; nodes = 0; missing = 0; stopped = false }
 
 opens : (text : List ℕ) → Opens start text (root ∷ []) (fresh root ∷ [])
-unfolding move ended
+unfolding ended
 opens text = record {
-  opens = refl;
-  other = λ o others e r. rw (ne-eqb o letterR r);
+  opens = moved-move (starts refl);
+  other = λ o others e r. fault-start o r;
   ends = λ q. refl;
 }
 
@@ -51,11 +52,11 @@ hall-unopened {text} {words} {after} {to} q o l w t = record {
 
 surplus : (text : List ℕ) (p : ℕ) → p < length text → readFrom p (inside []) (drop p text) ≡ faultAt p
 unfolding move
-surplus text p h = readFrom-fault text p (inside []) h refl
+surplus text p h = place-fault text p (inside []) h refl
 
 finished : (text : List ℕ) (p : ℕ) → length text ≤ p → readFrom p (inside []) (drop p text) ≡ whole []
 unfolding ended
-finished text p h = readFrom-end text p (inside []) h
+finished text p h = place-end text p (inside []) h
 
 module _ {text mid after : List ℕ} {named end : Progress} {owner : Node} (words : List ℕ) (q : ℕ) (o : q ≡ 0 + matched text) (two : 2 ≤ q)
     (w : mid ≡ set words 0 root) (n : named ≡ passed begin q (root ∷ [])) (f : owner ≡ fresh root)

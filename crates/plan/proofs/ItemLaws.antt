@@ -20,7 +20,8 @@ use Rattle.plan.specs.Reading.{Expected, inside, to, behind, ended, faul
 use Rattle.plan.specs.Plan.{missing}
 use Rattle.plan.specs.Progress.{Progress, matched, PartRead}
 use Rattle.plan.proofs.Openings.{matched-le}
-use Rattle.plan.proofs.Moves.{Opens, move-closing, move-host, move-router, move-other, move-full, readFrom-move, readFrom-fault, readFrom-end, readFrom-opened, readFrom-unopened}
+use Rattle.plan.proofs.MoveLaws.{closes, hosts, routers, moved-move, fault-item}
+use Rattle.plan.proofs.Places.{Opens, place-to, place-fault, place-end, readFrom-opened, readFrom-unopened}
 use Rattle.plan.proofs.Parts.{passed, faulty, part-passed, part-faulty, part-then, part-deeper}
 
 -- what stands at a place, where it is neither ")" nor an H, may be opened by an R
@@ -29,10 +30,10 @@ opens : (text : List ℕ) (p : ℕ) (n : Node) (up : List Node) → p < length t
     → Opens (inside (n ∷ up)) (drop p text) (childIn (childOf n Router) ∷ []) (fresh (childIn (childOf n Router)) ∷ childOf n Router .node ∷ up)
 unfolding ended
 opens text p n up h c l room = record {
-  opens = move-router n up room;
+  opens = moved-move (routers n up refl room);
   other = λ o others e r.
       let same : getD text p 0 ≡ o = ap (λ (s : List ℕ). getD s 0 0) (sym (drop-cons text p 0 h) ∙ e) in
-      move-other n up o (λ z. c (same ∙ z)) (λ z. l (same ∙ z)) r;
+      fault-item n up o (λ z. c (same ∙ z)) (λ z. l (same ∙ z)) (λ z m. r z);
   ends = λ q. refl;
 }
 
@@ -42,8 +43,8 @@ module _ {text words after : List ℕ} {from end : Progress} {allowed : ℕ} {no
       → PartRead text words after from end allowed (λ up. inside (node ∷ up)) (λ up. inside (g .node ∷ up))
   item-host g o e w t =
       part-passed (from .place + 1) (childIn g ∷ []) t w (omega arith) (omega arith) λ up l.
-      readFrom-move text (from .place) (inside (node ∷ up)) h (
-      move-host node up (getD text (from .place) 0) o
+      place-to text (from .place) (inside (node ∷ up)) h (
+      moved-move (hosts node up o)
       ∙ ap (λ (x : Given). to (childIn x ∷ []) (inside (x .node ∷ up))) (sym e)
       )
 
@@ -52,7 +53,7 @@ module _ {text words after : List ℕ} {from end : Progress} {allowed : ℕ} {no
         → PartRead text words after from end allowed (λ up. inside (node ∷ up)) other
     item-full z w t =
         part-faulty (from .place) t w (omega arith) (omega arith) λ up k.
-        readFrom-fault text (from .place) (inside (node ∷ up)) h (move-full node up (getD text (from .place) 0) c l (omega arith))
+        place-fault text (from .place) (inside (node ∷ up)) h (fault-item node up (getD text (from .place) 0) c l (λ r m. omega arith))
 
     module _ (q : ℕ) (o : q ≡ from .place + matched (drop (from .place) text)) (some : 0 < allowed) where
       pub item-unopened : {other : List Node → Expected} → q - from .place < 2 → after ≡ words → end ≡ faulty from q
@@ -106,11 +107,11 @@ module _ {text words mid after : List ℕ} {from at end : Progress} {allowed : �
       t
       ∙ ap₂ (λ (n m : ℕ). record { place = at .place + 1; nodes = n; missing = m; stopped = false }) (sym (add-zero (at .nodes))) (sym (add-zero (at .missing)))
       ) w (omega arith) (omega arith) λ up k.
-      readFrom-move text (at .place) (inside (node ∷ up)) h (move-closing node up (getD text (at .place) 0) o)
+      place-to text (at .place) (inside (node ∷ up)) h (moved-move (closes node up o))
       )
 
   pub group-unclosed : length text ≤ at .place → after ≡ mid → end ≡ faulty at (at .place)
       → PartRead text words after from end allowed (λ up. inside (owner ∷ up)) (λ up. inside up)
   unfolding ended
   group-unclosed h w t =
-      part-then s r (part-faulty (at .place) t w (omega arith) (r .within) λ up k. readFrom-end text (at .place) (inside (node ∷ up)) h)
+      part-then s r (part-faulty (at .place) t w (omega arith) (r .within) λ up k. place-end text (at .place) (inside (node ∷ up)) h)

@@ -11,7 +11,7 @@ pub mod OneRule
 pub mod WrongRules
 mod Openings
 mod Missing
-mod Moves
+mod Places
 mod Parts
 mod ItemLaws
 mod HallLaws

@@ -14,7 +14,7 @@ use Rattle.plan.specs.Reading.{Expected, Reading, behind, faultAt, readF
 use Rattle.plan.specs.Plan.{missing}
 use Rattle.plan.specs.Progress.{Progress, PartRead}
 use Rattle.plan.proofs.Missing.{missing-append}
-use Rattle.plan.proofs.Moves.{behind-nil, behind-append}
+use Rattle.plan.proofs.MoveLaws.{behind-nil, behind-append}
 
 pub sets-append : (l : List ℕ) (i : ℕ) (p q : List ℕ) → sets l i (p ++ q) ≡ sets (sets l i p) (i + length p) q
 sets-append l i [] q = rw add-zero
@@ -100,7 +100,7 @@ behind-if : (t : Bool) (given others : List ℕ) (place : ℕ) (r : Reading)
     → behind given (if t then faultAt place else behind others r) ≡ (if t then faultAt place else behind (given ++ others) r)
 unfolding behind
 behind-if true given others place r = refl
-behind-if false given others place r = behind-append given others r
+behind-if false given others place r = sym (behind-append given others r)
 
 -- one part behind another
 pub part-then : {text words mid after : List ℕ} {from at to : Progress} {allowed : ℕ} {before middle behindIt : List Node → Expected}

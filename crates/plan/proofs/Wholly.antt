@@ -13,7 +13,7 @@ use Rattle.plan.specs.Limits.{mostGroups}
 use Rattle.plan.specs.Grammar.{letterR, letterH, opening, closing, Items, none, host, router, itemsText, planText, groupsOpen, Spells}
 use Rattle.plan.specs.Hall.{childIn, answers, hall, items, nodes}
 use Rattle.plan.specs.Reading.{start, group, inside, whole, behind, ended, readFrom, reading}
-use Rattle.plan.proofs.MoveLaws.{move-start, move-group, move-closing, move-host, move-router, readFrom-to, behind-nil, behind-append}
+use Rattle.plan.proofs.MoveLaws.{starts, opens, closes, hosts, routers, moved-move, readFrom-to, behind-nil, behind-append}
 use Rattle.plan.proofs.Spelling.{itemsText-router}
 
 -- ---- as many addresses as nodes
@@ -50,11 +50,11 @@ pub readFrom-items : (i : Items) (p : ℕ) (n : Node) (up : List Node) (s : List
 unfolding itemsText groupsOpen answers
 readFrom-items none p n up s l =
     let place : suc p ≡ p + 0 + 1 = omega arith in
-    readFrom-to p (inside (n ∷ up)) closing s (move-closing n up) ∙ ap (λ (q : ℕ). behind [] (readFrom q (inside up) s)) place
+    readFrom-to p (inside (n ∷ up)) closing s (moved-move (closes n up refl)) ∙ ap (λ (q : ℕ). behind [] (readFrom q (inside up) s)) place
 readFrom-items (host i) p n up s l =
     let next = childOf n Host .node in
     let place : suc p + length (itemsText i) + 1 ≡ p + suc (length (itemsText i)) + 1 = omega arith in
-    readFrom-to p (inside (n ∷ up)) letterH (itemsText i ++ closing ∷ s) (move-host n up)
+    readFrom-to p (inside (n ∷ up)) letterH (itemsText i ++ closing ∷ s) (moved-move (hosts n up refl))
     ∙ ap (behind (childIn (childOf n Host) ∷ [])) (readFrom-items i (suc p) next up s l)
     ∙ sym (behind-append (childIn (childOf n Host) ∷ []) (children next i) (readFrom (suc p + length (itemsText i) + 1) (inside up) s))
     ∙ ap (λ (q : ℕ). behind (childIn (childOf n Host) ∷ children next i) (readFrom q (inside up) s)) place
@@ -67,9 +67,9 @@ readFrom-items (router g i) p n up s l =
     let place : mid + length (itemsText i) + 1 ≡ p + suc (suc (length (itemsText g ++ closing ∷ itemsText i))) + 1 =
     omega (arith, length-append (itemsText g) (closing ∷ itemsText i)) in
     ap (readFrom p (inside (n ∷ up))) (itemsText-router g i (closing ∷ s))
-    ∙ readFrom-to p (inside (n ∷ up)) letterR (opening ∷ (itemsText g ++ closing ∷ behindGroup)) (move-router n up (omega arith))
+    ∙ readFrom-to p (inside (n ∷ up)) letterR (opening ∷ (itemsText g ++ closing ∷ behindGroup)) (moved-move (routers n up refl (omega arith)))
     ∙ ap (behind (own ∷ []))
-    (readFrom-to (suc p) (group (fresh own ∷ next ∷ up)) opening (itemsText g ++ closing ∷ behindGroup) (move-group (fresh own ∷ next ∷ up))
+    (readFrom-to (suc p) (group (fresh own ∷ next ∷ up)) opening (itemsText g ++ closing ∷ behindGroup) (moved-move (opens (fresh own ∷ next ∷ up) refl))
     ∙ behind-nil (readFrom (suc (suc p)) (inside (fresh own ∷ next ∷ up)) (itemsText g ++ closing ∷ behindGroup))
     ∙ readFrom-items g (suc (suc p)) (fresh own) (next ∷ up) behindGroup (omega arith)
     ∙ ap (behind (children (fresh own) g))
@@ -81,9 +81,9 @@ readFrom-items (router g i) p n up s l =
 pub reading-planText : (plan : Items) → suc (groupsOpen plan) ≤ mostGroups → reading (planText plan) ≡ whole (hall plan)
 unfolding reading planText hall behind readFrom ended
 reading-planText plan within =
-    readFrom-to 0 start letterR (opening ∷ (itemsText plan ++ closing ∷ [])) move-start
+    readFrom-to 0 start letterR (opening ∷ (itemsText plan ++ closing ∷ [])) (moved-move (starts refl))
     ∙ ap (behind (root ∷ []))
-    (readFrom-to 1 (group (fresh root ∷ [])) opening (itemsText plan ++ closing ∷ []) (move-group (fresh root ∷ []))
+    (readFrom-to 1 (group (fresh root ∷ [])) opening (itemsText plan ++ closing ∷ []) (moved-move (opens (fresh root ∷ []) refl))
     ∙ behind-nil (readFrom 2 (inside (fresh root ∷ [])) (itemsText plan ++ closing ∷ []))
     ∙ readFrom-items plan 2 (fresh root) [] [] (omega arith)
     ∙ ap whole (append-nil (children (fresh root) plan)))
