@@ -12,9 +12,10 @@ use Rattle.plan.specs.Grammar.{Items, Spells, IsText, IsStart, Stops}
 use Rattle.plan.specs.Hall.{hall}
 use Rattle.plan.specs.Reading.{start, Reading, whole, faultAt, reading}
 use Rattle.plan.specs.Exactly.{Grammar, ExactlyTheGrammar}
+use Rattle.plan.proofs.Answers.{length-hall}
 use Rattle.plan.proofs.Spelling.{one-plan}
 use Rattle.plan.proofs.Completing.{completes-text}
-use Rattle.plan.proofs.Wholly.{length-hall, reading-spells}
+use Rattle.plan.proofs.Wholly.{reading-spells}
 use Rattle.plan.proofs.Stopping.{readFrom-whole, HaltsIn, StopsIn, Stopped, stopped, readFrom-faultAt}
 
 -- ---- starts

@@ -1,4 +1,7 @@
 -- The laws of the plan crate: the reading by the grammar, and then the functions inside the code.
+pub mod Inner
+pub mod Answers
+mod Missing
 pub mod MoveLaws
 pub mod Spelling
 pub mod Completing
@@ -10,7 +13,6 @@ pub mod RefusalLaws
 pub mod OneRule
 pub mod WrongRules
 mod Openings
-mod Missing
 mod Places
 mod Parts
 mod ItemLaws

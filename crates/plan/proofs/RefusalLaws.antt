@@ -18,8 +18,8 @@ use Rattle.plan.specs.Hall.{hall, nodes, SomeTooLong}
 use Rattle.plan.specs.Reading.{Reading, whole, faultAt, reading}
 use Rattle.plan.specs.Plan.{PlanEffect, refusePlan, missing, listed, judged, planning}
 use Rattle.plan.specs.Refusals.{PlanOf, planOrder, PlanRefusals}
+use Rattle.plan.proofs.Answers.{length-hall}
 use Rattle.plan.proofs.Spelling.{of-the-plan}
-use Rattle.plan.proofs.Wholly.{length-hall}
 use Rattle.plan.proofs.Exact.{not-both, faultAt-stops, exactly-the-grammar}
 use Rattle.plan.proofs.TooLong.{too-long}
 

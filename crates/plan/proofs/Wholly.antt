@@ -16,22 +16,6 @@ use Rattle.plan.specs.Reading.{start, group, inside, whole, behind, ende
 use Rattle.plan.proofs.MoveLaws.{starts, opens, closes, hosts, routers, moved-move, readFrom-to, behind-nil, behind-append}
 use Rattle.plan.proofs.Spelling.{itemsText-router}
 
--- ---- as many addresses as nodes
-
-pub length-answers : (n : Node) (i : Items) → length (answers n i) ≡ items i
-unfolding answers items
-length-answers n none = refl
-length-answers n (host i) = ap suc (length-answers (childOf n Host .node) i)
-length-answers n (router g i) =
-    ap suc (length-append (answers (fresh (childIn (childOf n Router))) g) (answers (childOf n Router .node) i)
-    ∙ ap₂ _+_ (length-answers (fresh (childIn (childOf n Router))) g) (length-answers (childOf n Router .node) i))
-
-pub length-hall : (plan : Items) → length (hall plan) ≡ nodes plan
-unfolding hall nodes
-length-hall plan = ap suc (length-map (answers (fresh root) plan) childIn ∙ length-answers (fresh root) plan)
-
--- ---- the reading of items
-
 -- the children that items give
 abbrev children : Node → Items → List ℕ
 children n i = map childIn (answers n i)
