@@ -1,5 +1,5 @@
 -- A rule for reading a plan that gives its refusals exactly as the request says lists the tree of the plan's requests: refusal 0 excludes an
--- address too long, and 3 is given where one is, in a text whose letters are not too many. Assumes nothing.
+-- address too long, and 3 is given where one is, in the one plan that the text spells, if its nodes are not too many. Assumes nothing.
 use Prim.Native.Nat.{ℕ, _≤_, _<_}
 use mathlib.Core.Path.{_≡_, refl, sym, ap, ap₂, _∙_}
 use mathlib.Core.Logic.{inl, inr}
@@ -13,15 +13,12 @@ use Rattle.plan.specs.Grammar.{Items, Spells}
 use Rattle.plan.specs.Hall.{nodes, hall, SomeTooLong}
 use Rattle.plan.specs.Plan.{PlanEffect}
 use Rattle.plan.specs.Refusals.{PlanOf, planOrder, PlanRefusals}
+use Rattle.plan.proofs.Answers.{length-hall}
+use Rattle.plan.proofs.Spelling.{of-the-plan}
 use Rattle.halls.specs.Requests.{requests}
 use Rattle.halls.specs.Halls.{letters, SomeRefused}
 use Rattle.halls.specs.HallsRead.{nodesOf, Listed, HallsRead}
-use Rattle.halls.proofs.Counts.{length-hall, nodes-letters}
 use Rattle.halls.proofs.Planned.{planned-halls}
-
--- a text tells how many nodes its plan has
-nodes-spelled : {text : List ℕ} {plan : Items} → Spells text plan → nodes plan ≡ length (letters text)
-nodes-spelled {text} {plan} s = nodes-letters plan ∙ ap (λ (l : List ℕ). length (letters l)) (sym (s .spelled))
 
 -- a text that is short enough, of a plan with not too many nodes, of which one request is refused
 abbrev ThreeFor : List ℕ → Type 0
@@ -51,7 +48,7 @@ module _ (text words : List ℕ) where
     inr (
       λ other. other (plan, s),
       inr (
-        λ more. omega (arith, few, more .2, nodes-spelled s, nodes-spelled (more .1)),
+        λ more. omega (arith, few, of-the-plan (λ (i : Items). mostNodes < nodes i) s more),
         inl ((plan, s, planned-halls .tooLong plan .1 some), refl),
       ),
     ),
