@@ -9,14 +9,14 @@ use lib.ListN.{length, drop}
 use Rattle.address.specs.Order.{First}
 use Rattle.tree.proofs.Theorem.{demand-3}
 use Rattle.plan.specs.Limits.{mostBytes, mostNodes}
-use Rattle.plan.specs.Grammar.{Items, Spells}
+use Rattle.plan.specs.Grammar.{Items}
 use Rattle.plan.specs.Hall.{nodes, hall, SomeTooLong}
 use Rattle.plan.specs.Plan.{PlanEffect}
 use Rattle.plan.specs.Refusals.{PlanOf, planOrder, PlanRefusals}
 use Rattle.plan.proofs.Answers.{length-hall}
 use Rattle.plan.proofs.Spelling.{of-the-plan}
 use Rattle.halls.specs.Requests.{requests}
-use Rattle.halls.specs.Halls.{letters, SomeRefused}
+use Rattle.halls.specs.Halls.{SomeRefused}
 use Rattle.halls.specs.HallsRead.{nodesOf, Listed, HallsRead}
 use Rattle.halls.proofs.Planned.{planned-halls}
 

@@ -1,20 +1,16 @@
 -- An item is answered 3 exactly if its reply is 3 with the address 0: each answer is that of a request, so a refused one has the address 0, and
 -- 3 is not the 1 of a node that nobody asked. Assumes nothing.
 use Prim.Native.Nat.{ℕ}
-use mathlib.Core.Path.{_≡_, sym, ap, _∙_}
-use mathlib.Core.Logic.{_↔_, ⊎-elim}
-use mathlib.Core.List.{_++_, map, List·Memᴰ, List·Memᴰ·not-nil, List·Memᴰ·cases-cons, List·Memᴰ·append-cases, Memᴰ·cast, Memᴰ·map, Memᴰ·of-map}
+use mathlib.Core.Path.{_≡_, sym}
+use mathlib.Core.Logic.{_↔_}
+use mathlib.Core.List.{map, List·Memᴰ, Memᴰ·cast, Memᴰ·map, Memᴰ·of-map}
 use native.Mathlib.Decide.{ℕ-discrete}
 use native.Mathlib.Omega.{arith}
 use borrow.Author.Tests.{eq-eqb, ne-eqb}
-use Rattle.address.specs.declared.Kind.{Kind}
-use Rattle.address.specs.declared.Kind.the-variants.{Router, Host}
-use Rattle.node.specs.Node.{fresh, childOf}
 use Rattle.node.specs.declared.Node.{Node}
 use Rattle.node.specs.declared.Given.{Given}
-use Rattle.node.proofs.RefusalLaws.{child-refusals}
 use Rattle.tree.specs.Tree.{replied, nobody}
-use Rattle.plan.specs.Grammar.{Items, none, host, router}
+use Rattle.plan.specs.Grammar.{Items}
 use Rattle.plan.specs.Hall.{childIn, answers, refusalOf}
 use Rattle.plan.proofs.Answers.{IsAnswer, answer-asked, refused-zero}
 use Rattle.halls.specs.Halls.{replyOf}

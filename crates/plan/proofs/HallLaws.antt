@@ -1,24 +1,20 @@
 -- The whole text: its outermost "R(", the root's group, and nothing behind it. Assumes nothing.
-use mathlib.Core.Path.{_≡_, refl, sym, ap, ap₂, _∙_, subst}
-use mathlib.Core.Bool.{Bool, true, false}
+use mathlib.Core.Path.{_≡_, refl, sym, ap, ap₂, _∙_}
+use mathlib.Core.Bool.{true, false}
 use mathlib.Core.List.{List, [], _∷_, append-nil}
-use Prim.Native.Nat.{ℕ, suc, _+_, _-_, _≤_, _<_}
-use native.Mathlib.Nat.{zero-add, suc-add}
+use Prim.Native.Nat.{ℕ, _+_, _-_, _≤_, _<_}
 use native.Mathlib.Omega.{arith}
-use lib.ListN.{length, drop, set, getD}
+use lib.ListN.{length, drop, set}
 use lib.Seq.{sets}
-use borrow.Author.Tests.{ne-eqb}
 use Rattle.address.specs.Choice.{if_then_else_}
 use Rattle.address.specs.Bits.{root}
 use Rattle.node.specs.Node.{fresh}
 use Rattle.node.specs.declared.Node.{Node}
 use Rattle.plan.specs.Limits.{mostGroups}
-use Rattle.plan.specs.Grammar.{letterR}
-use Rattle.plan.specs.Reading.{start, inside, group, move, fault, Reading, whole, faultAt, behind, ended, readFrom, reading}
+use Rattle.plan.specs.Reading.{start, inside, move, whole, faultAt, behind, ended, readFrom, reading}
 use Rattle.plan.specs.Plan.{missing}
 use Rattle.plan.specs.Progress.{Progress, matched, PartRead, HallRead}
 use Rattle.plan.proofs.Openings.{matched-le}
-use Rattle.plan.proofs.Missing.{missing-append}
 use Rattle.plan.proofs.MoveLaws.{starts, moved-move, fault-start}
 use Rattle.plan.proofs.Places.{Opens, place-fault, place-end, readFrom-opened, readFrom-unopened}
 use Rattle.plan.proofs.Parts.{passed, faulty}

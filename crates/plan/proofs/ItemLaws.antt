@@ -1,11 +1,10 @@
 -- The parts of a text that the two readers read, one law for each way out of them: a host, a router with its group, a group's ")", the text's end
 -- and the faults. Assumes nothing.
 use mathlib.Core.Path.{_≡_, refl, sym, ap, ap₂, _∙_, subst}
-use mathlib.Core.Bool.{true, false}
+use mathlib.Core.Bool.{false}
 use mathlib.Core.List.{List, [], _∷_}
 use Prim.Native.Nat.{ℕ, suc, _+_, _-_, _≤_, _<_}
 use native.Mathlib.Nat.{add-zero}
-use native.Mathlib.Numerals.{add-one}
 use native.Mathlib.Omega.{arith}
 use lib.ListN.{length, drop, set, getD, length-drop}
 use lib.Seq.{drop-cons, drop-drop}
@@ -14,7 +13,7 @@ use Rattle.node.specs.Node.{fresh, childOf}
 use Rattle.node.specs.declared.Node.{Node}
 use Rattle.node.specs.declared.Given.{Given}
 use Rattle.plan.specs.Limits.{mostGroups}
-use Rattle.plan.specs.Grammar.{letterR, letterH, closing}
+use Rattle.plan.specs.Grammar.{letterH, closing}
 use Rattle.plan.specs.Hall.{childIn}
 use Rattle.plan.specs.Reading.{Expected, inside, to, behind, ended, faultAt, readFrom}
 use Rattle.plan.specs.Plan.{missing}

@@ -12,7 +12,6 @@ use lib.ListN.{length, drop, getD, drop-of-length-le}
 use lib.Seq.{drop-cons}
 use lib.Dec.{eqb}
 use borrow.Author.Tests.{eqb-true, eqb-false}
-use Rattle.address.specs.Choice.{if_then_else_}
 use Rattle.node.specs.declared.Node.{Node}
 use Rattle.plan.specs.Grammar.{letterR, opening}
 use Rattle.plan.specs.Reading.{Expected, group, inside, to, fault, move, faultAt, behind, ended, readFrom}

@@ -1,17 +1,17 @@
 -- A text of the grammar is read whole, with the addresses of its hall: the items of a group give the children that its node is asked for, one
 -- after another, and the reading goes on behind their ")". Assumes nothing.
 use Prim.Native.Nat.{ℕ, suc, _+_, _≤_}
-use mathlib.Core.Path.{_≡_, refl, sym, ap, ap₂, _∙_}
+use mathlib.Core.Path.{_≡_, refl, sym, ap, _∙_}
 use mathlib.Core.List.{List, [], _∷_, _++_, map, map-append, append-nil}
 use native.Mathlib.Omega.{arith}
-use lib.ListN.{length, length-append, length-map}
+use lib.ListN.{length, length-append}
 use Rattle.address.specs.Bits.{root}
 use Rattle.address.specs.declared.Kind.the-variants.{Router, Host}
 use Rattle.node.specs.Node.{fresh, childOf}
 use Rattle.node.specs.declared.Node.{Node}
 use Rattle.plan.specs.Limits.{mostGroups}
 use Rattle.plan.specs.Grammar.{letterR, letterH, opening, closing, Items, none, host, router, itemsText, planText, groupsOpen, Spells}
-use Rattle.plan.specs.Hall.{childIn, answers, hall, items, nodes}
+use Rattle.plan.specs.Hall.{childIn, answers, hall}
 use Rattle.plan.specs.Reading.{start, group, inside, whole, behind, ended, readFrom, reading}
 use Rattle.plan.proofs.MoveLaws.{starts, opens, closes, hosts, routers, moved-move, readFrom-to, behind-nil, behind-append}
 use Rattle.plan.proofs.Spelling.{itemsText-router}

@@ -9,14 +9,6 @@ use Rattle.plan.proofs.HallLaws.{hall-unopened, hall-stopped, hall-surp
 use borrow.Author.Needs.{needs}
 use Rattle.plan.proofs.hall.Statement.{statement}
 use Rattle.plan.proofs.hall.Tie as tie
-use Rattle.plan.proofs.hall.Reads as reads
-use Rattle.plan.proofs.hall.Lts as lts
-use Rattle.node.proofs.Node.fresh.Reads as fresh-reads
-use Rattle.plan.proofs.count.Reads as count-reads
-use Rattle.plan.proofs.group.Reads as group-reads
-use Rattle.plan.proofs.opened.Reads as opened-reads
-use Rattle.plan.proofs.put.Reads as put-reads
-use Rattle.plan.proofs.stop.Reads as stop-reads
 
 opened-requires : tie.Need-opened-requires
 opened-requires c κs = search needs

@@ -5,8 +5,6 @@ use borrow.Author.Needs.{needs}
 use Rattle.plan.proofs.Openings.{matched-none, matched-other, matched-end, matched-first, matched-both}
 use Rattle.plan.proofs.opened.Statement.{statement}
 use Rattle.plan.proofs.opened.Tie as tie
-use Rattle.plan.proofs.opened.Reads as reads
-use Rattle.plan.proofs.opened.Lts as lts
 
 returns : tie.Need-returns
 returns c =

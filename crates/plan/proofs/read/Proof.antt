@@ -1,5 +1,5 @@
 -- `plan::read` meets its contract: each exit is one law of `planning`.
-use mathlib.Core.Path.{_≡_, refl, sym, ap, _∙_}
+use mathlib.Core.Path.{refl, ap, _∙_}
 use mathlib.Core.List.{List}
 use Prim.Native.Nat.{ℕ}
 use native.Mathlib.Omega.{arith}
@@ -8,10 +8,6 @@ use Rattle.plan.proofs.PlanLaws.{planning-bytes, planning-stops, planni
 use borrow.Author.Needs.{needs}
 use Rattle.plan.proofs.read.Statement.{statement}
 use Rattle.plan.proofs.read.Tie as tie
-use Rattle.plan.proofs.read.Reads as reads
-use Rattle.plan.proofs.read.Lts as lts
-use Rattle.plan.proofs.hall.Reads as hall-reads
-use Rattle.plan.proofs.refuse.Reads as refuse-reads
 
 refuse-requires : tie.Need-refuse-requires
 refuse-requires c κs = search needs
