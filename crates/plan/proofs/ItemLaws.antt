@@ -21,7 +21,7 @@ use Rattle.plan.specs.Progress.{Progress, matched, PartRead}
 use Rattle.plan.proofs.Openings.{matched-le}
 use Rattle.plan.proofs.MoveLaws.{closes, hosts, routers, moved-move, fault-item}
 use Rattle.plan.proofs.Places.{Opens, place-to, place-fault, place-end, readFrom-opened, readFrom-unopened}
-use Rattle.plan.proofs.Parts.{passed, faulty, part-passed, part-faulty, part-then, part-deeper}
+use Rattle.plan.proofs.Parts.{passed, faulty, given-none, part-passed, part-faulty, part-then, part-deeper}
 
 -- what stands at a place, where it is neither ")" nor an H, may be opened by an R
 opens : (text : List ℕ) (p : ℕ) (n : Node) (up : List Node) → p < length text
@@ -99,13 +99,9 @@ module _ {text words mid after : List ℕ} {from at end : Progress} {allowed : �
   pub group-closed : at .place < length text → getD text (at .place) 0 ≡ closing → after ≡ mid
       → end ≡ record { place = at .place + 1; nodes = at .nodes; missing = at .missing; stopped = false }
       → PartRead text words after from end allowed (λ up. inside (owner ∷ up)) (λ up. inside up)
-  unfolding missing
   group-closed h o w t =
       part-then s r (
-      part-passed (at .place + 1) [] (
-      t
-      ∙ ap₂ (λ (n m : ℕ). record { place = at .place + 1; nodes = n; missing = m; stopped = false }) (sym (add-zero (at .nodes))) (sym (add-zero (at .missing)))
-      ) w (omega arith) (omega arith) λ up k.
+      part-passed (at .place + 1) [] (t ∙ given-none false at (at .place + 1)) w (omega arith) (omega arith) λ up k.
       place-to text (at .place) (inside (node ∷ up)) h (moved-move (closes node up o))
       )
 
