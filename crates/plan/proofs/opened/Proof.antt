@@ -32,16 +32,26 @@ shared-slice-read-if4 c = search needs
 
 returns-4 : tie.Need-returns-4
 returns-4 c =
-    let at = c .before .before .before .before .before .before .args in
-    omega (arith, matched-first (at .text .now) (at .place) _ refl (omega arith) (c .before .before .before .if2 .left) (omega (arith, c .before .before .if3 .left)) (c .if4 .taken))
+    let more = c .before .before in
+    let named = more .before in
+    let at = named .before .before .before .args in
+    omega (
+      arith,
+      matched-first (at .text .now) (at .place) _ refl (omega arith) (named .if2 .left) (omega (arith, more .if3 .left)) (c .if4 .taken),
+    )
 
 add-result : tie.Need-add-result
 add-result c = search needs
 
 returns-5 : tie.Need-returns-5
 returns-5 c =
-    let at = c .before .before .before .before .before .before .args in
-    omega (arith, matched-both (at .text .now) (at .place) _ refl (omega arith) (c .before .before .before .if2 .left) (omega (arith, c .before .before .if3 .left)) (c .if4 .left))
+    let more = c .before .before in
+    let named = more .before in
+    let at = named .before .before .before .args in
+    omega (
+      arith,
+      matched-both (at .text .now) (at .place) _ refl (omega arith) (named .if2 .left) (omega (arith, more .if3 .left)) (c .if4 .left),
+    )
 
 pub opened-spec : {M : Type 1} → statement M
 opened-spec =
