@@ -1,9 +1,8 @@
 -- The whole text: its outermost "R(", the root's group, and nothing behind it. Assumes nothing.
-use mathlib.Core.Path.{_≡_, refl, sym, ap, ap₂, _∙_, subst}
+use mathlib.Core.Path.{_≡_, refl, sym, ap, _∙_, subst}
 use mathlib.Core.Bool.{true, false}
 use mathlib.Core.List.{List, [], _∷_, append-nil}
-use Prim.Native.Nat.{ℕ, suc, _+_, _-_, _≤_, _<_}
-use native.Mathlib.Nat.{zero-add}
+use Prim.Native.Nat.{ℕ, _+_, _-_, _≤_, _<_}
 use native.Mathlib.Omega.{arith}
 use lib.ListN.{length, drop, set}
 use Rattle.address.specs.Choice.{if_then_else_}
@@ -12,7 +11,6 @@ use Rattle.node.specs.Node.{fresh}
 use Rattle.node.specs.declared.Node.{Node}
 use Rattle.plan.specs.Limits.{mostGroups}
 use Rattle.plan.specs.Reading.{start, inside, move, whole, faultAt, behind, ended, readFrom, reading}
-use Rattle.plan.specs.Plan.{missing}
 use Rattle.plan.specs.Progress.{Progress, matched, PartRead, HallRead}
 use Rattle.plan.proofs.Openings.{matched-le}
 use Rattle.plan.proofs.MoveLaws.{starts, moved-move, fault-start}

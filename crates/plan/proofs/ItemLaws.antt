@@ -4,7 +4,6 @@ use mathlib.Core.Path.{_≡_, refl, sym, ap, ap₂, _∙_, subst}
 use mathlib.Core.Bool.{false}
 use mathlib.Core.List.{List, [], _∷_}
 use Prim.Native.Nat.{ℕ, suc, _+_, _-_, _≤_, _<_}
-use native.Mathlib.Nat.{add-zero}
 use native.Mathlib.Omega.{arith}
 use lib.ListN.{length, drop, set, getD, length-drop}
 use lib.Seq.{drop-cons, drop-drop}
@@ -16,7 +15,6 @@ use Rattle.plan.specs.Limits.{mostGroups}
 use Rattle.plan.specs.Grammar.{letterH, closing}
 use Rattle.plan.specs.Hall.{childIn}
 use Rattle.plan.specs.Reading.{Expected, inside, to, behind, ended, faultAt, readFrom}
-use Rattle.plan.specs.Plan.{missing}
 use Rattle.plan.specs.Progress.{Progress, matched, PartRead}
 use Rattle.plan.proofs.Openings.{matched-le}
 use Rattle.plan.proofs.MoveLaws.{closes, hosts, routers, moved-move, fault-item}
