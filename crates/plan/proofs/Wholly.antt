@@ -28,7 +28,7 @@ children-router n g i =
     (map-append childIn (answers (fresh (childIn (childOf n Router))) g) (answers (childOf n Router .node) i))
 
 -- up to the ")" of their group and past it
-pub readFrom-items : (i : Items) (p : ℕ) (n : Node) (up : List Node) (s : List ℕ) → length (n ∷ up) + groupsOpen i ≤ mostGroups
+readFrom-items : (i : Items) (p : ℕ) (n : Node) (up : List Node) (s : List ℕ) → length (n ∷ up) + groupsOpen i ≤ mostGroups
     → readFrom p (inside (n ∷ up)) (itemsText i ++ closing ∷ s)
     ≡ behind (map childIn (answers n i)) (readFrom (p + length (itemsText i) + 1) (inside up) s)
 unfolding itemsText groupsOpen answers
@@ -62,7 +62,7 @@ readFrom-items (router g i) p n up s l =
     ∙ sym (behind-append (own ∷ []) (children (fresh own) g ++ children next i) last)
     ∙ ap (λ (given : List ℕ). behind given last) (sym (children-router n g i))
 
-pub reading-planText : (plan : Items) → suc (groupsOpen plan) ≤ mostGroups → reading (planText plan) ≡ whole (hall plan)
+reading-planText : (plan : Items) → suc (groupsOpen plan) ≤ mostGroups → reading (planText plan) ≡ whole (hall plan)
 unfolding reading planText hall behind readFrom ended
 reading-planText plan within =
     readFrom-to 0 start letterR (opening ∷ (itemsText plan ++ closing ∷ [])) (moved-move (starts refl))

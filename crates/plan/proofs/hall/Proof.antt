@@ -2,16 +2,16 @@
 use mathlib.Core.Path.{refl, ap}
 use mathlib.Core.List.{[], _∷_}
 use native.Mathlib.Omega.{arith}
-use borrow.Author.Needs.{needs}
 use Rattle.plan.specs.Progress.{Progress}
 use Rattle.plan.proofs.Openings.{matched-le}
 use Rattle.plan.proofs.Missing.{missing-le}
+use Rattle.plan.proofs.Parts.{length-part}
 use Rattle.plan.proofs.HallLaws.{RootRead, root-read, hall-unopened, hall-stopped, hall-surplus, hall-whole}
 use Rattle.plan.proofs.hall.Statement.{statement}
 use Rattle.plan.proofs.hall.Tie as tie
 
 opened-requires : tie.Need-opened-requires
-opened-requires c κs = search needs
+opened-requires c κs = omega arith
 
 stop-requires : tie.Need-stop-requires
 stop-requires c κs = tt
@@ -25,13 +25,13 @@ put-requires : tie.Need-put-requires
 put-requires c κs = tt
 
 count-requires : tie.Need-count-requires
-count-requires c κs = search needs
+count-requires c κs = (omega arith, omega arith)
 
 fresh-requires : tie.Need-fresh-requires
 fresh-requires c κs = tt
 
 sub-group : tie.Need-sub-group
-sub-group c = search needs
+sub-group c = omega arith
 
 group-requires : tie.Need-group-requires
 group-requires c κs =
@@ -62,7 +62,7 @@ read c =
     (made .fresh .ensures) (c .group .ensures)
 
 same-length : tie.Need-same-length
-same-length c = search needs
+same-length c = length-part (read (c .before .before .before))
 
 returns-2 : tie.Need-returns-2
 returns-2 c = hall-stopped (read (c .before .before .before)) (c .if2 .taken)
@@ -71,13 +71,14 @@ stop-requires-2 : tie.Need-stop-requires-2
 stop-requires-2 c κs = tt
 
 same-length-2 : tie.Need-same-length-2
-same-length-2 c = search needs
+same-length-2 c = length-part (read (c .before .before .before .before .before))
 
 returns-3 : tie.Need-returns-3
-returns-3 c = hall-surplus (read (c .before .before .before .before .before)) (c .before .before .if2 .left) (c .before .if3 .taken) (c .stop2 .ensures)
+returns-3 c =
+    hall-surplus (read (c .before .before .before .before .before)) (c .before .before .if2 .left) (c .before .if3 .taken) (c .stop2 .ensures)
 
 same-length-3 : tie.Need-same-length-3
-same-length-3 c = search needs
+same-length-3 c = length-part (read (c .before .before .before .before))
 
 returns-4 : tie.Need-returns-4
 returns-4 c = hall-whole (read (c .before .before .before .before)) (c .before .if2 .left) (omega (arith, c .if3 .left))
