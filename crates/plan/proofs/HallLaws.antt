@@ -24,10 +24,10 @@ begin = record { place = 0; nodes = 0; missing = 0; stopped = false }
 abbrev pub RootRead : List ℕ → List ℕ → List ℕ → Progress → Type 0
 RootRead text words after end = PartRead text words after begin end (mostGroups - 1) (λ up. start) (λ up. inside up)
 
-opens : (text : List ℕ) → Opens start text (root ∷ []) (fresh root ∷ [])
+may-open : (text : List ℕ) → Opens start text (root ∷ []) (fresh root ∷ [])
 unfolding ended
-opens text = record {
-  opens = moved-move (starts refl);
+may-open text = record {
+  named = moved-move (starts refl);
   other = λ o others e r. fault-start o r;
   ends = λ q. refl;
 }
@@ -36,7 +36,7 @@ module _ {text words after : List ℕ} {end : Progress} (q : ℕ) (o : q ≡ 0 +
   root-unopened : q < 2 → after ≡ words → end ≡ faulty begin q → RootRead text words after end
   root-unopened l w t =
       part-faulty q t w (omega arith) (omega (arith, matched-le text .0)) λ up h.
-      readFrom-unopened 0 text (opens text) (omega arith) ∙ ap (λ (k : ℕ). faultAt k) (sym o)
+      readFrom-unopened 0 text (may-open text) (omega arith) ∙ ap (λ (k : ℕ). faultAt k) (sym o)
 
   root-named : 2 ≤ q → after ≡ set words 0 root → end ≡ passed begin q (root ∷ [])
       → PartRead text words after begin end (mostGroups - 1) (λ up. start) (λ up. inside (fresh root ∷ up))
@@ -46,7 +46,7 @@ module _ {text words after : List ℕ} {end : Progress} (q : ℕ) (o : q ≡ 0 +
           → readFrom 0 start text ≡ behind (root ∷ []) (readFrom q (inside (fresh root ∷ up)) (drop q text))
       reads [] h =
           let place : 2 ≡ q = omega (arith, matched-le text .1) in
-          readFrom-opened 0 text (opens text) (omega arith)
+          readFrom-opened 0 text (may-open text) (omega arith)
           ∙ ap (λ (p : ℕ). behind (root ∷ []) (readFrom p (inside (fresh root ∷ [])) (drop p text))) place
       reads (n ∷ up) h = absurd (omega arith)
 

@@ -22,12 +22,12 @@ use Rattle.plan.proofs.Places.{Opens, place-to, place-fault, place-end,
 use Rattle.plan.proofs.Parts.{passed, faulty, given-none, part-passed, part-faulty, part-then, part-deeper}
 
 -- what stands at a place, where it is neither ")" nor an H, may be opened by an R
-opens : (text : List ℕ) (p : ℕ) (n : Node) (up : List Node) → p < length text
+may-open : (text : List ℕ) (p : ℕ) (n : Node) (up : List Node) → p < length text
     → (getD text p 0 ≡ closing → ⊥) → (getD text p 0 ≡ letterH → ⊥) → length (n ∷ up) < mostGroups
     → Opens (inside (n ∷ up)) (drop p text) (childIn (childOf n Router) ∷ []) (fresh (childIn (childOf n Router)) ∷ childOf n Router .node ∷ up)
 unfolding ended
-opens text p n up h c l room = record {
-  opens = moved-move (routers n up refl room);
+may-open text p n up h c l room = record {
+  named = moved-move (routers n up refl room);
   other = λ o others e r.
       let same : getD text p 0 ≡ o = ap (λ (s : List ℕ). getD s 0 0) (sym (drop-cons text p 0 h) ∙ e) in
       fault-item n up o (λ z. c (same ∙ z)) (λ z. l (same ∙ z)) (λ z m. r z);
@@ -58,7 +58,7 @@ module _ {text words after : List ℕ} {from end : Progress} {allowed : ℕ} {no
       item-unopened m w t =
           part-faulty q t w (omega arith)
           (omega (arith, matched-le (drop (from .place) text) .0, length-drop (from .place) text)) λ up k.
-          readFrom-unopened (from .place) (drop (from .place) text) (opens text (from .place) node up h c l (omega arith)) (omega arith)
+          readFrom-unopened (from .place) (drop (from .place) text) (may-open text (from .place) node up h c l (omega arith)) (omega arith)
           ∙ ap (λ (k : ℕ). faultAt k) (sym o)
 
       -- the router itself, and then its group
@@ -68,12 +68,12 @@ module _ {text words after : List ℕ} {from end : Progress} {allowed : ℕ} {no
       router-named g m e w t =
           let two : from .place + 2 ≡ q = omega (arith, matched-le (drop (from .place) text) .1) in
           let next : suc (suc (from .place)) ≡ q = omega arith in
-          let rest : drop 2 (drop (from .place) text) ≡ drop q text = drop-drop 2 (from .place) text ∙ ap (λ (r : ℕ). drop r text) two in
-          part-passed q (childIn g ∷ []) t w (omega arith)
-          (omega (arith, matched-le (drop (from .place) text) .0, length-drop (from .place) text)) λ up k.
-          readFrom-opened (from .place) (drop (from .place) text) (opens text (from .place) node up h c l (omega arith)) (omega arith)
+          let here = drop (from .place) text in
+          let rest : drop 2 here ≡ drop q text = drop-drop 2 (from .place) text ∙ ap (λ (r : ℕ). drop r text) two in
+          part-passed q (childIn g ∷ []) t w (omega arith) (omega (arith, matched-le here .0, length-drop (from .place) text)) λ up k.
+          readFrom-opened (from .place) here (may-open text (from .place) node up h c l (omega arith)) (omega arith)
           ∙ ap (λ (x : Given).
-          behind (childIn x ∷ []) (readFrom (suc (suc (from .place))) (inside (fresh (childIn x) ∷ x .node ∷ up)) (drop 2 (drop (from .place) text)))) (sym e)
+          behind (childIn x ∷ []) (readFrom (suc (suc (from .place))) (inside (fresh (childIn x) ∷ x .node ∷ up)) (drop 2 here))) (sym e)
           ∙ ap₂ (λ (r : ℕ) (s : List ℕ). behind (childIn g ∷ []) (readFrom r (inside (fresh (childIn g) ∷ g .node ∷ up)) s)) next rest
 
 -- a router with its group: the two parts, one behind the other

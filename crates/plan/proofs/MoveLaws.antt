@@ -142,3 +142,12 @@ pub behind-faultAt : (given : List ℕ) (r : Reading) {place : ℕ} → behind g
 unfolding behind
 behind-faultAt given (whole others) e = let z : _≡_ {A = ℕ} 0 1 = cc in absurd (omega arith)
 behind-faultAt given (faultAt place) e = e
+
+-- ---- "R("
+
+pub readFrom-open : (p : ℕ) (e : Expected) (s : List ℕ) {given : List ℕ} {up : List Node} → move e letterR ≡ to given (group up)
+    → readFrom p e (letterR ∷ opening ∷ s) ≡ behind given (readFrom (suc (suc p)) (inside up) s)
+readFrom-open p e s {given} {up} m =
+    readFrom-to p e letterR (opening ∷ s) m
+    ∙ ap (behind given)
+    (readFrom-to (suc p) (group up) opening s (moved-move (opens up refl)) ∙ behind-nil (readFrom (suc (suc p)) (inside up) s))

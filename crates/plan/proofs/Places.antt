@@ -56,7 +56,7 @@ module _ (p : ℕ) (up : List Node) where
 
 -- what may be opened by an R, and goes on with nothing else
 pub record Opens (e : Expected) (text : List ℕ) (given : List ℕ) (up : List Node) : Type 0 where
-  pub opens : move e letterR ≡ to given (group up)
+  pub named : move e letterR ≡ to given (group up)
   pub other : (o : ℕ) (others : List ℕ) → text ≡ o ∷ others → (o ≡ letterR → ⊥) → move e o ≡ fault
   pub ends : (p : ℕ) → ended p e ≡ faultAt p
 
@@ -72,12 +72,12 @@ module _ (p : ℕ) {e : Expected} {given : List ℕ} {up : List Node} where
   both [] h = inr (omega arith, rw add-zero (h .ends p))
   both (o ∷ text) h = go (eqb o letterR) refl (second (suc p) up text)
     where
-      named : eqb o letterR ≡ true → readFrom p e (o ∷ text) ≡ behind given (readFrom (suc p) (group up) text)
-      named t = readFrom-to p e o text (ap (move e) (eqb-true o letterR t) ∙ h .opens)
+      first : eqb o letterR ≡ true → readFrom p e (o ∷ text) ≡ behind given (readFrom (suc p) (group up) text)
+      first t = readFrom-to p e o text (ap (move e) (eqb-true o letterR t) ∙ h .named)
 
       go : (t : Bool) → eqb o letterR ≡ t → Second (suc p) up text → Both p e (o ∷ text) given up
-      go true t (inl (m, r)) = unfold matched in inl (rw (t, m), named t ∙ ap (behind given) r)
-      go true t (inr (m, r)) = unfold matched behind in inr (rw (t, m) (omega arith), rw (t, m, add-one) (named t ∙ ap (behind given) r))
+      go true t (inl (m, r)) = unfold matched in inl (rw (t, m), first t ∙ ap (behind given) r)
+      go true t (inr (m, r)) = unfold matched behind in inr (rw (t, m) (omega arith), rw (t, m, add-one) (first t ∙ ap (behind given) r))
       go false t s = unfold matched in
           inr (rw t (omega arith), rw (t, add-zero) (readFrom-fault p e o text (h .other o text refl (eqb-false o letterR t))))
 

@@ -10,10 +10,10 @@ use Rattle.address.specs.declared.Kind.the-variants.{Router, Host}
 use Rattle.node.specs.Node.{fresh, childOf}
 use Rattle.node.specs.declared.Node.{Node}
 use Rattle.plan.specs.Limits.{mostGroups}
-use Rattle.plan.specs.Grammar.{letterR, letterH, opening, closing, Items, none, host, router, itemsText, planText, groupsOpen, Spells}
+use Rattle.plan.specs.Grammar.{letterH, closing, Items, none, host, router, itemsText, planText, groupsOpen, Spells}
 use Rattle.plan.specs.Hall.{childIn, answers, hall}
-use Rattle.plan.specs.Reading.{start, group, inside, whole, behind, ended, readFrom, reading}
-use Rattle.plan.proofs.MoveLaws.{starts, opens, closes, hosts, routers, moved-move, readFrom-to, behind-nil, behind-append}
+use Rattle.plan.specs.Reading.{start, inside, whole, behind, ended, readFrom, reading}
+use Rattle.plan.proofs.MoveLaws.{starts, closes, hosts, routers, moved-move, readFrom-to, readFrom-open, behind-append}
 use Rattle.plan.proofs.Spelling.{itemsText-router}
 
 -- the children that items give
@@ -51,11 +51,9 @@ readFrom-items (router g i) p n up s l =
     let place : mid + length (itemsText i) + 1 ≡ p + suc (suc (length (itemsText g ++ closing ∷ itemsText i))) + 1 =
     omega (arith, length-append (itemsText g) (closing ∷ itemsText i)) in
     ap (readFrom p (inside (n ∷ up))) (itemsText-router g i (closing ∷ s))
-    ∙ readFrom-to p (inside (n ∷ up)) letterR (opening ∷ (itemsText g ++ closing ∷ behindGroup)) (moved-move (routers n up refl (omega arith)))
+    ∙ readFrom-open p (inside (n ∷ up)) (itemsText g ++ closing ∷ behindGroup) (moved-move (routers n up refl (omega arith)))
     ∙ ap (behind (own ∷ []))
-    (readFrom-to (suc p) (group (fresh own ∷ next ∷ up)) opening (itemsText g ++ closing ∷ behindGroup) (moved-move (opens (fresh own ∷ next ∷ up) refl))
-    ∙ behind-nil (readFrom (suc (suc p)) (inside (fresh own ∷ next ∷ up)) (itemsText g ++ closing ∷ behindGroup))
-    ∙ readFrom-items g (suc (suc p)) (fresh own) (next ∷ up) behindGroup (omega arith)
+    (readFrom-items g (suc (suc p)) (fresh own) (next ∷ up) behindGroup (omega arith)
     ∙ ap (behind (children (fresh own) g))
     (readFrom-items i mid next up s (omega arith) ∙ ap (λ (q : ℕ). behind (children next i) (readFrom q (inside up) s)) place)
     ∙ sym (behind-append (children (fresh own) g) (children next i) last))
@@ -65,11 +63,9 @@ readFrom-items (router g i) p n up s l =
 reading-planText : (plan : Items) → suc (groupsOpen plan) ≤ mostGroups → reading (planText plan) ≡ whole (hall plan)
 unfolding reading planText hall behind readFrom ended
 reading-planText plan within =
-    readFrom-to 0 start letterR (opening ∷ (itemsText plan ++ closing ∷ [])) (moved-move (starts refl))
+    readFrom-open 0 start (itemsText plan ++ closing ∷ []) (moved-move (starts refl))
     ∙ ap (behind (root ∷ []))
-    (readFrom-to 1 (group (fresh root ∷ [])) opening (itemsText plan ++ closing ∷ []) (moved-move (opens (fresh root ∷ []) refl))
-    ∙ behind-nil (readFrom 2 (inside (fresh root ∷ [])) (itemsText plan ++ closing ∷ []))
-    ∙ readFrom-items plan 2 (fresh root) [] [] (omega arith)
+    (readFrom-items plan 2 (fresh root) [] [] (omega arith)
     ∙ ap whole (append-nil (children (fresh root) plan)))
 
 pub reading-spells : (text : List ℕ) (plan : Items) → Spells text plan → reading text ≡ whole (hall plan)

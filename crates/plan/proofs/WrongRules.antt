@@ -26,7 +26,8 @@ use Rattle.plan.specs.Reading.{Expected, start, Move, to, fault, moveIte
 use Rattle.plan.specs.Plan.{PlanEffect, refusePlan, missing, listed, judged, planning}
 use Rattle.plan.specs.Refusals.{PlanRefusals}
 use Rattle.plan.specs.WrongRules.{judgedBy, planningBy, rightParts, refusesAll, grammarFirst, letters, nodesFirst, roomFirst}
-use Rattle.plan.specs.WrongRules.{placeFromOne, placeBeside, writesWithoutRoom, writesRoot, rootUncounted, readFromBy, moving, moveUnlimited, unlimited, withoutAddress, closingAddress, moveLate, routersLate}
+use Rattle.plan.specs.WrongRules.{placeFromOne, placeBeside, writesWithoutRoom, writesRoot, rootUncounted}
+use Rattle.plan.specs.WrongRules.{readFromBy, moving, moveUnlimited, unlimited, withoutAddress, closingAddress, moveLate, routersLate}
 use Rattle.plan.proofs.MoveLaws.{readFrom-fault}
 use Rattle.plan.proofs.Answers.{length-hall}
 use Rattle.plan.proofs.Spelling.{planText-one}
