@@ -24,7 +24,7 @@ use Rattle.tree.proofs.Runs.{ask-given, ask-refused, ask-nobody}
 use Rattle.tree.proofs.Growth.{is-new, recordOf-asked, recordOf-new, recordOf-other}
 use Rattle.plan.specs.Hall.{childIn, refusalOf}
 use Rattle.halls.specs.Halls.{replyOf}
-use Rattle.halls.proofs.Inner.{Inner, inner-root, childOf-inner, inner-raised, inner-child}
+use Rattle.plan.proofs.Inner.{Inner, inner-root, inner-gives, inner-refusal, inner-child}
 use Rattle.halls.proofs.Runs.{replies-standing, replies-absent}
 
 -- a group's node: it stands in the tree with this record, and is the root or a router; or it was refused
@@ -70,14 +70,18 @@ module _ (t : Tree) (s : Sound t) where
       inner : Inner n
       inner = record { good = s .good (addressIn n) n e; noHost = noHost; address = s .address (addressIn n) (inTree-recordOf (addressIn n) n t e) }
 
+      -- nor is a router child
+      no-host : (may : MayGive n kind) → kind ≡ Router → isHost (addressIn (fresh (number (childBits n kind)))) ≡ false
+      no-host may k = rw (childOf-given may) at (inner-child kind inner (ap refusalOf (childOf-given may)) k .noHost)
+
       asked-given : (may : MayGive n kind)
           → Asked n kind t (record { node = raised kind n; child = addressAt (number (childBits n kind)); refusal = 0 })
           (replaced (addressIn n) (raised kind n) t ++ (fresh (number (childBits n kind)) ∷ []))
       asked-given may = record {
         own = open-at (addressIn n) (raised kind n) _ (addressIn-raised kind n) (recordOf-asked t s (addressIn n) n e kind may)
-            (inner-raised n kind inner may .noHost);
+            (rw (addressIn-raised kind n) noHost);
         child = λ k. open-at (number (childBits n kind)) (fresh (number (childBits n kind))) _ (addressIn-fresh (number (childBits n kind)))
-            (recordOf-new t s (addressIn n) n e kind may) (inner-child n kind inner may k .noHost);
+            (recordOf-new t s (addressIn n) n e kind may) (no-host may k);
         others = λ x m ne r. recordOf-other t s (addressIn n) n e kind may x (λ q. ne (sym q)) (inTree-recordOf x m t r) ∙ r;
         new = is-new t s (addressIn n) n e kind may;
       }
@@ -97,10 +101,7 @@ module _ (t : Tree) (s : Sound t) where
 
       -- the answer is not 1
       heard : childOf n kind .refusal ≡ 1 → ⊥
-      unfolding refuseChild
-      heard z =
-          ⊎-elim (λ may. omega (arith, ap refusalOf (childOf-given may)))
-          (λ r. omega (arith, ap refusalOf r)) (childOf-inner n kind inner)
+      heard z = ⊎-elim (λ three. omega arith) (λ done. omega arith) (inner-refusal kind inner)
 
     -- nobody has the address 0
     module _ (z : addressIn n ≡ 0) where
@@ -115,7 +116,7 @@ module _ (t : Tree) (s : Sound t) where
         ⊎-elim
         (λ (may : MayGive n kind). rw (tree-given e noHost may, childOf-given may) (asked-given e noHost may))
         (λ (r : childOf n kind ≡ refuseChild 3 n). rw (tree-refused e noHost r, r) (asked-refused n kind 3 (stands e noHost)))
-        (childOf-inner n kind (inner e noHost))
+        (inner-gives kind (inner e noHost))
     asked (refused z) = rw (ask-nobody childOf t (addressIn n) kind (nobody-there z), bad z) (asked-refused n kind 1 (refused z))
 
     pub replies-asked : Open n t → ask childOf t (request (addressIn n) kind) .replies ≡ replyOf (childOf n kind) ∷ []

@@ -1,14 +1,12 @@
 -- The proof that a hall that is read is a tree of demand 3: a plan's requests run through the tree as its items are answered, and what is given
 -- is its hall.
-pub mod Inner
-pub mod Runs
-pub mod Asking
-pub mod Running
-pub mod NoneRefused
-pub mod TooLong
-pub mod LetterLaws
-pub mod Counts
+mod Runs
+mod Asking
+mod Running
+mod NoneRefused
+mod TooLong
+mod LetterLaws
 pub mod Planned
-pub mod Reading
+mod Reading
 pub mod Theorem
 pub mod ExampleLaws

@@ -13,7 +13,6 @@ use Rattle.plan.specs.Grammar.{Items}
 use Rattle.plan.specs.Hall.{answers, hall, SomeTooLong}
 use Rattle.halls.specs.Requests.{requests}
 use Rattle.halls.specs.Halls.{replyOf, repliesTo, SomeRefused, PlannedHalls}
-use Rattle.halls.proofs.Inner.{inner-root}
 use Rattle.halls.proofs.Asking.{open-root}
 use Rattle.halls.proofs.Running.{run}
 use Rattle.halls.proofs.NoneRefused.{givenBy-answers}
@@ -33,7 +32,7 @@ module _ (plan : Items) where
   unfolding hall givenIn repliesTo
   tree-plan free =
       sym (demand-3 (requests plan) .nodes ∙ ap (λ (rs : List Reply). root ∷ givenBy rs) replies-plan
-      ∙ ap (λ (l : List ℕ). root ∷ l) (givenBy-answers plan (fresh root) inner-root free))
+      ∙ ap (λ (l : List ℕ). root ∷ l) (givenBy-answers plan free))
 
 pub planned-halls : PlannedHalls
 planned-halls = record {

@@ -1,61 +1,23 @@
--- A rule for reading a plan that gives its refusals exactly as the request says lists the tree of the plan's requests: refusal 0 excludes an
--- address too long, and 3 is given where one is, in a text whose letters are not too many. Assumes nothing.
-use Prim.Native.Nat.{ℕ, _≤_, _<_}
-use mathlib.Core.Path.{_≡_, refl, sym, ap, ap₂, _∙_}
-use mathlib.Core.Logic.{inl, inr}
+-- A rule for reading a plan that gives its refusals exactly as the request says lists the tree of the plan's requests: it ends in one of six
+-- ways, and only where the plan fits, with no address too long, is the refusal 0, and only where one is too long is it 3. Assumes nothing.
+use Prim.Native.Nat.{ℕ, _≤_}
+use mathlib.Core.Path.{_≡_, refl, sym, ap, ap₂, subst, _∙_}
 use mathlib.Core.List.{List, _++_}
 use native.Mathlib.Omega.{arith}
 use lib.ListN.{length, drop}
-use Rattle.address.specs.Order.{First}
 use Rattle.tree.proofs.Theorem.{demand-3}
 use Rattle.plan.specs.Limits.{mostBytes, mostNodes}
-use Rattle.plan.specs.Grammar.{Items, Spells}
+use Rattle.plan.specs.Grammar.{Items}
 use Rattle.plan.specs.Hall.{nodes, hall, SomeTooLong}
-use Rattle.plan.specs.Plan.{PlanEffect}
-use Rattle.plan.specs.Refusals.{PlanOf, planOrder, PlanRefusals}
+use Rattle.plan.specs.Plan.{PlanEffect, refusePlan}
+use Rattle.plan.specs.Refusals.{PlanOf, PlanRefusals}
+use Rattle.plan.proofs.Answers.{length-hall}
+use Rattle.plan.proofs.RefusalLaws.{written, End, manyBytes, outside, manyNodes, tooLong, noRoom, fits, planning-end}
+use Rattle.plan.proofs.OneRule.{only-end, one-rule}
 use Rattle.halls.specs.Requests.{requests}
-use Rattle.halls.specs.Halls.{letters, SomeRefused}
+use Rattle.halls.specs.Halls.{SomeRefused}
 use Rattle.halls.specs.HallsRead.{nodesOf, Listed, HallsRead}
-use Rattle.halls.proofs.Counts.{length-hall, nodes-letters}
 use Rattle.halls.proofs.Planned.{planned-halls}
-
--- a text tells how many nodes its plan has
-nodes-spelled : {text : List ℕ} {plan : Items} → Spells text plan → nodes plan ≡ length (letters text)
-nodes-spelled {text} {plan} s = nodes-letters plan ∙ ap (λ (l : List ℕ). length (letters l)) (sym (s .spelled))
-
--- a text that is short enough, of a plan with not too many nodes, of which one request is refused
-abbrev ThreeFor : List ℕ → Type 0
-ThreeFor text = (length text ≤ mostBytes) × PlanOf text (λ plan. (nodes plan ≤ mostNodes) × SomeRefused plan)
-
-module _ (text words : List ℕ) where
-  first-done : First (planOrder text words) 0 → PlanOf text SomeTooLong → ⊥
-  first-done (inl (c, e)) = absurd (omega arith)
-  first-done (inr (long, inl (c, e))) = absurd (omega arith)
-  first-done (inr (long, inr (other, inl (c, e)))) = absurd (omega arith)
-  first-done (inr (long, inr (other, inr (many, inl (c, e))))) = absurd (omega arith)
-  first-done (inr (long, inr (other, inr (many, inr (free, rest))))) = free
-
-  three-first : First (planOrder text words) 3 → ThreeFor text
-  three-first (inl (c, e)) = absurd (omega arith)
-  three-first (inr (long, inl (c, e))) = absurd (omega arith)
-  three-first (inr (long, inr (other, inl (c, e)))) = absurd (omega arith)
-  three-first (inr (long, inr (other, inr (many, inl ((plan, s, tooLong), e))))) =
-      let few : mostNodes < nodes plan → ⊥ = λ l. many (plan, s, l) in
-      (omega arith, (plan, s, (omega arith, planned-halls .tooLong plan .0 tooLong)))
-  three-first (inr (long, inr (other, inr (many, inr (free, inl (c, e)))))) = absurd (omega arith)
-  three-first (inr (long, inr (other, inr (many, inr (free, inr e))))) = absurd (omega arith)
-
-  first-three : ThreeFor text → First (planOrder text words) 3
-  first-three (short, (plan, s, (few, some))) = inr (
-    λ l. omega arith,
-    inr (
-      λ other. other (plan, s),
-      inr (
-        λ more. omega (arith, few, more .2, nodes-spelled s, nodes-spelled (more .1)),
-        inl ((plan, s, planned-halls .tooLong plan .1 some), refl),
-      ),
-    ),
-  )
 
 -- the hall of a plan none of whose addresses is too long, as the tree of its requests
 listed-hall : (plan : Items) (effect : PlanEffect) (words : List ℕ) → (SomeTooLong plan → ⊥) → effect .answer .nodes ≡ nodes plan
@@ -69,14 +31,37 @@ listed-hall plan effect words free number put =
       demand3 = demand-3 (requests plan);
     }
 
+module _ {text words : List ℕ} where
+  end-listed : {e : PlanEffect} → End text words e → e .answer .refusal ≡ 0 → PlanOf text (λ plan. Listed plan e words)
+  unfolding refusePlan written
+  end-listed (manyBytes long) z = absurd (omega arith)
+  end-listed (outside short p s) z = absurd (omega arith)
+  end-listed (manyNodes short plan s many) z = absurd (omega arith)
+  end-listed (tooLong short plan s few long) z = absurd (omega arith)
+  end-listed (noRoom short plan s few none full) z = absurd (omega arith)
+  end-listed (fits short plan s few none room) z = (plan, s, listed-hall plan (written plan words) words none refl refl)
+
+  end-three : {e : PlanEffect} → End text words e → e .answer .refusal ≡ 3
+      → (length text ≤ mostBytes) × PlanOf text (λ plan. (nodes plan ≤ mostNodes) × SomeRefused plan)
+  unfolding refusePlan written
+  end-three (manyBytes long) z = absurd (omega arith)
+  end-three (outside short p s) z = absurd (omega arith)
+  end-three (manyNodes short plan s many) z = absurd (omega arith)
+  end-three (tooLong short plan s few long) z = (short, (plan, s, (few, planned-halls .tooLong plan .0 long)))
+  end-three (noRoom short plan s few none full) z = absurd (omega arith)
+  end-three (fits short plan s few none room) z = absurd (omega arith)
+
 pub halls-read-by : (rule : List ℕ → List ℕ → PlanEffect) → PlanRefusals rule → HallsRead rule
-halls-read-by rule h = record {
-  without = λ text words z.
-      let found = h .without text words z in
-      let free = first-done text words (h .given text words 0 .0 z) in
-      (found .0, found .1, listed-hall (found .0) (rule text words) words (λ long. free (found .0, found .1, long)) (found .2 .0) (found .2 .1));
+unfolding refusePlan
+halls-read-by rule claim = record {
+  without = λ text words. end-listed (ends text words);
   tooLong = λ text words. (
-    λ e. three-first text words (h .given text words 3 .0 e),
-    λ three. h .given text words 3 .1 (first-three text words three),
+    end-three (ends text words),
+    λ (short, (plan, s, (few, some))).
+        ap (λ (e : PlanEffect). e .answer .refusal)
+        (only-end rule claim text words (tooLong short plan s few (planned-halls .tooLong plan .1 some))),
   );
 }
+  where
+    ends : (text words : List ℕ) → End text words (rule text words)
+    ends text words = subst (End text words) (sym (one-rule rule claim text words)) (planning-end text words)

@@ -1,45 +1,24 @@
 -- An item is answered 3 exactly if its reply is 3 with the address 0: each answer is that of a request, so a refused one has the address 0, and
 -- 3 is not the 1 of a node that nobody asked. Assumes nothing.
 use Prim.Native.Nat.{ℕ}
-use mathlib.Core.Path.{_≡_, sym, ap, _∙_}
-use mathlib.Core.Logic.{_↔_, ⊎-elim}
-use mathlib.Core.List.{_++_, map, List·Memᴰ, List·Memᴰ·not-nil, List·Memᴰ·cases-cons, List·Memᴰ·append-cases, Memᴰ·cast, Memᴰ·map, Memᴰ·of-map}
+use mathlib.Core.Path.{_≡_, sym}
+use mathlib.Core.Logic.{_↔_}
+use mathlib.Core.List.{map, List·Memᴰ, Memᴰ·cast, Memᴰ·map, Memᴰ·of-map}
 use native.Mathlib.Decide.{ℕ-discrete}
 use native.Mathlib.Omega.{arith}
 use borrow.Author.Tests.{eq-eqb, ne-eqb}
-use Rattle.address.specs.declared.Kind.{Kind}
-use Rattle.address.specs.declared.Kind.the-variants.{Router, Host}
-use Rattle.node.specs.Node.{fresh, childOf}
 use Rattle.node.specs.declared.Node.{Node}
 use Rattle.node.specs.declared.Given.{Given}
-use Rattle.node.proofs.RefusalLaws.{child-refusals}
 use Rattle.tree.specs.Tree.{replied, nobody}
-use Rattle.plan.specs.Grammar.{Items, none, host, router}
+use Rattle.plan.specs.Grammar.{Items}
 use Rattle.plan.specs.Hall.{childIn, answers, refusalOf}
+use Rattle.plan.proofs.Answers.{IsAnswer, answer-asked, refused-zero}
 use Rattle.halls.specs.Halls.{replyOf}
-
-abbrev IsAnswer : Given → Type 0
-IsAnswer g = (m : Node) × (kind : Kind) × (g ≡ childOf m kind)
-
-answer-asked : (group : Items) (n : Node) (g : Given) → List·Memᴰ g (answers n group) → IsAnswer g
-unfolding answers
-answer-asked none n g i = absurd (List·Memᴰ·not-nil i)
-answer-asked (host behind) n g i =
-    ⊎-elim (λ e. (n, Host, e)) (answer-asked behind (childOf n Host .node) g) (List·Memᴰ·cases-cons i)
-answer-asked (router group behind) n g i =
-    let new = fresh (childIn (childOf n Router)) in
-    ⊎-elim (λ e. (n, Router, e))
-    (λ (j : List·Memᴰ g (answers new group ++ answers (childOf n Router .node) behind)).
-    ⊎-elim (answer-asked group new g) (answer-asked behind (childOf n Router .node) g) (List·Memᴰ·append-cases (answers new group) j))
-    (List·Memᴰ·cases-cons i)
 
 -- a refused one as a reply
 replyOf-three : (g : Given) → IsAnswer g → g .refusal ≡ 3 → replyOf g ≡ replied 3 0
 unfolding replyOf
-replyOf-three g (m, kind, e) three =
-    let z : childIn g ≡ 0 =
-    ap childIn e ∙ child-refusals .beside m kind (λ (q : childOf m kind .refusal ≡ 0). omega (arith, ap refusalOf e)) .0 in
-    rw (ne-eqb (g .refusal) 1 (λ q. omega arith), three, z)
+replyOf-three g is three = rw (ne-eqb (g .refusal) 1 (λ q. omega arith), three, refused-zero g is (λ q. omega arith))
 
 three-replyOf : (g : Given) → replyOf g ≡ replied 3 0 → g .refusal ≡ 3
 unfolding replyOf

@@ -12,24 +12,25 @@ use Rattle.plan.specs.Grammar.{Items, Spells, IsText, IsStart, Stops}
 use Rattle.plan.specs.Hall.{hall}
 use Rattle.plan.specs.Reading.{start, Reading, whole, faultAt, reading}
 use Rattle.plan.specs.Exactly.{Grammar, ExactlyTheGrammar}
+use Rattle.plan.proofs.Answers.{length-hall}
 use Rattle.plan.proofs.Spelling.{one-plan}
 use Rattle.plan.proofs.Completing.{completes-text}
-use Rattle.plan.proofs.Wholly.{length-hall, reading-spells}
+use Rattle.plan.proofs.Wholly.{reading-spells}
 use Rattle.plan.proofs.Stopping.{readFrom-whole, HaltsIn, StopsIn, Stopped, stopped, readFrom-faultAt}
 
 -- ---- starts
 
 -- the beginning of a start is a start
-pub start-append : (s t : List ℕ) → IsStart (s ++ t) → IsStart s
+start-append : (s t : List ℕ) → IsStart (s ++ t) → IsStart s
 start-append s t (behind, text) = (t ++ behind, subst IsText (append-assoc s t behind) text)
 
-pub start-take : (m n : ℕ) (text : List ℕ) → m ≤ n → IsStart (take n text) → IsStart (take m text)
+start-take : (m n : ℕ) (text : List ℕ) → m ≤ n → IsStart (take n text) → IsStart (take m text)
 start-take m n text l s =
     let front = subst IsStart (sym (take-append-drop m (take n text))) s in
     subst IsStart (take-take m n text l) (start-append (take m (take n text)) (drop m (take n text)) front)
 
 -- a text is a start
-pub start-text : (text : List ℕ) → IsText text → IsStart text
+start-text : (text : List ℕ) → IsText text → IsStart text
 start-text text t = ([], subst IsText (sym (append-nil text)) t)
 
 -- ---- one place
@@ -64,7 +65,7 @@ not-both text p t s = go (s .stops)
 
 -- ---- the reading
 
-pub whole-text : (text given : List ℕ) → reading text ≡ whole given → IsText text
+whole-text : (text given : List ℕ) → reading text ≡ whole given → IsText text
 unfolding reading
 whole-text text given h = completes-text text .0 (readFrom-whole text 0 start tt h)
 
@@ -100,7 +101,7 @@ exactly-the-grammar = record {
     found text p s (whole given) h = absurd (not-both text p (whole-text text given h) s)
     found text p s (faultAt q) h = h ∙ ap faultAt (one-place text q p (faultAt-stops text q h) s)
 
-pub text-or-stops : (text : List ℕ) → IsText text ⊎ ((p : ℕ) × Stops text p)
+text-or-stops : (text : List ℕ) → IsText text ⊎ ((p : ℕ) × Stops text p)
 text-or-stops text = go (reading text) refl
   where
     go : (r : Reading) → reading text ≡ r → IsText text ⊎ ((p : ℕ) × Stops text p)

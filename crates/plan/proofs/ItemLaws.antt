@@ -1,11 +1,9 @@
 -- The parts of a text that the two readers read, one law for each way out of them: a host, a router with its group, a group's ")", the text's end
 -- and the faults. Assumes nothing.
 use mathlib.Core.Path.{_≡_, refl, sym, ap, ap₂, _∙_, subst}
-use mathlib.Core.Bool.{true, false}
+use mathlib.Core.Bool.{false}
 use mathlib.Core.List.{List, [], _∷_}
 use Prim.Native.Nat.{ℕ, suc, _+_, _-_, _≤_, _<_}
-use native.Mathlib.Nat.{add-zero}
-use native.Mathlib.Numerals.{add-one}
 use native.Mathlib.Omega.{arith}
 use lib.ListN.{length, drop, set, getD, length-drop}
 use lib.Seq.{drop-cons, drop-drop}
@@ -14,25 +12,25 @@ use Rattle.node.specs.Node.{fresh, childOf}
 use Rattle.node.specs.declared.Node.{Node}
 use Rattle.node.specs.declared.Given.{Given}
 use Rattle.plan.specs.Limits.{mostGroups}
-use Rattle.plan.specs.Grammar.{letterR, letterH, closing}
+use Rattle.plan.specs.Grammar.{letterH, closing}
 use Rattle.plan.specs.Hall.{childIn}
 use Rattle.plan.specs.Reading.{Expected, inside, to, behind, ended, faultAt, readFrom}
-use Rattle.plan.specs.Plan.{missing}
 use Rattle.plan.specs.Progress.{Progress, matched, PartRead}
 use Rattle.plan.proofs.Openings.{matched-le}
-use Rattle.plan.proofs.Moves.{Opens, move-closing, move-host, move-router, move-other, move-full, readFrom-move, readFrom-fault, readFrom-end, readFrom-opened, readFrom-unopened}
-use Rattle.plan.proofs.Parts.{passed, faulty, part-passed, part-faulty, part-then, part-deeper}
+use Rattle.plan.proofs.MoveLaws.{closes, hosts, routers, moved-move, fault-item}
+use Rattle.plan.proofs.Places.{Opens, place-to, place-fault, place-end, readFrom-opened, readFrom-unopened}
+use Rattle.plan.proofs.Parts.{passed, faulty, given-none, part-passed, part-faulty, part-then, part-deeper}
 
 -- what stands at a place, where it is neither ")" nor an H, may be opened by an R
-opens : (text : List ℕ) (p : ℕ) (n : Node) (up : List Node) → p < length text
+may-open : (text : List ℕ) (p : ℕ) (n : Node) (up : List Node) → p < length text
     → (getD text p 0 ≡ closing → ⊥) → (getD text p 0 ≡ letterH → ⊥) → length (n ∷ up) < mostGroups
     → Opens (inside (n ∷ up)) (drop p text) (childIn (childOf n Router) ∷ []) (fresh (childIn (childOf n Router)) ∷ childOf n Router .node ∷ up)
 unfolding ended
-opens text p n up h c l room = record {
-  opens = move-router n up room;
+may-open text p n up h c l room = record {
+  named = moved-move (routers n up refl room);
   other = λ o others e r.
       let same : getD text p 0 ≡ o = ap (λ (s : List ℕ). getD s 0 0) (sym (drop-cons text p 0 h) ∙ e) in
-      move-other n up o (λ z. c (same ∙ z)) (λ z. l (same ∙ z)) r;
+      fault-item n up o (λ z. c (same ∙ z)) (λ z. l (same ∙ z)) (λ z m. r z);
   ends = λ q. refl;
 }
 
@@ -42,8 +40,8 @@ module _ {text words after : List ℕ} {from end : Progress} {allowed : ℕ} {no
       → PartRead text words after from end allowed (λ up. inside (node ∷ up)) (λ up. inside (g .node ∷ up))
   item-host g o e w t =
       part-passed (from .place + 1) (childIn g ∷ []) t w (omega arith) (omega arith) λ up l.
-      readFrom-move text (from .place) (inside (node ∷ up)) h (
-      move-host node up (getD text (from .place) 0) o
+      place-to text (from .place) (inside (node ∷ up)) h (
+      moved-move (hosts node up o)
       ∙ ap (λ (x : Given). to (childIn x ∷ []) (inside (x .node ∷ up))) (sym e)
       )
 
@@ -52,7 +50,7 @@ module _ {text words after : List ℕ} {from end : Progress} {allowed : ℕ} {no
         → PartRead text words after from end allowed (λ up. inside (node ∷ up)) other
     item-full z w t =
         part-faulty (from .place) t w (omega arith) (omega arith) λ up k.
-        readFrom-fault text (from .place) (inside (node ∷ up)) h (move-full node up (getD text (from .place) 0) c l (omega arith))
+        place-fault text (from .place) (inside (node ∷ up)) h (fault-item node up (getD text (from .place) 0) c l (λ r m. omega arith))
 
     module _ (q : ℕ) (o : q ≡ from .place + matched (drop (from .place) text)) (some : 0 < allowed) where
       pub item-unopened : {other : List Node → Expected} → q - from .place < 2 → after ≡ words → end ≡ faulty from q
@@ -60,7 +58,7 @@ module _ {text words after : List ℕ} {from end : Progress} {allowed : ℕ} {no
       item-unopened m w t =
           part-faulty q t w (omega arith)
           (omega (arith, matched-le (drop (from .place) text) .0, length-drop (from .place) text)) λ up k.
-          readFrom-unopened (from .place) (drop (from .place) text) (opens text (from .place) node up h c l (omega arith)) (omega arith)
+          readFrom-unopened (from .place) (drop (from .place) text) (may-open text (from .place) node up h c l (omega arith)) (omega arith)
           ∙ ap (λ (k : ℕ). faultAt k) (sym o)
 
       -- the router itself, and then its group
@@ -70,12 +68,12 @@ module _ {text words after : List ℕ} {from end : Progress} {allowed : ℕ} {no
       router-named g m e w t =
           let two : from .place + 2 ≡ q = omega (arith, matched-le (drop (from .place) text) .1) in
           let next : suc (suc (from .place)) ≡ q = omega arith in
-          let rest : drop 2 (drop (from .place) text) ≡ drop q text = drop-drop 2 (from .place) text ∙ ap (λ (r : ℕ). drop r text) two in
-          part-passed q (childIn g ∷ []) t w (omega arith)
-          (omega (arith, matched-le (drop (from .place) text) .0, length-drop (from .place) text)) λ up k.
-          readFrom-opened (from .place) (drop (from .place) text) (opens text (from .place) node up h c l (omega arith)) (omega arith)
+          let here = drop (from .place) text in
+          let rest : drop 2 here ≡ drop q text = drop-drop 2 (from .place) text ∙ ap (λ (r : ℕ). drop r text) two in
+          part-passed q (childIn g ∷ []) t w (omega arith) (omega (arith, matched-le here .0, length-drop (from .place) text)) λ up k.
+          readFrom-opened (from .place) here (may-open text (from .place) node up h c l (omega arith)) (omega arith)
           ∙ ap (λ (x : Given).
-          behind (childIn x ∷ []) (readFrom (suc (suc (from .place))) (inside (fresh (childIn x) ∷ x .node ∷ up)) (drop 2 (drop (from .place) text)))) (sym e)
+          behind (childIn x ∷ []) (readFrom (suc (suc (from .place))) (inside (fresh (childIn x) ∷ x .node ∷ up)) (drop 2 here))) (sym e)
           ∙ ap₂ (λ (r : ℕ) (s : List ℕ). behind (childIn g ∷ []) (readFrom r (inside (fresh (childIn g) ∷ g .node ∷ up)) s)) next rest
 
 -- a router with its group: the two parts, one behind the other
@@ -99,18 +97,14 @@ module _ {text words mid after : List ℕ} {from at end : Progress} {allowed : �
   pub group-closed : at .place < length text → getD text (at .place) 0 ≡ closing → after ≡ mid
       → end ≡ record { place = at .place + 1; nodes = at .nodes; missing = at .missing; stopped = false }
       → PartRead text words after from end allowed (λ up. inside (owner ∷ up)) (λ up. inside up)
-  unfolding missing
   group-closed h o w t =
       part-then s r (
-      part-passed (at .place + 1) [] (
-      t
-      ∙ ap₂ (λ (n m : ℕ). record { place = at .place + 1; nodes = n; missing = m; stopped = false }) (sym (add-zero (at .nodes))) (sym (add-zero (at .missing)))
-      ) w (omega arith) (omega arith) λ up k.
-      readFrom-move text (at .place) (inside (node ∷ up)) h (move-closing node up (getD text (at .place) 0) o)
+      part-passed (at .place + 1) [] (t ∙ given-none false at (at .place + 1)) w (omega arith) (omega arith) λ up k.
+      place-to text (at .place) (inside (node ∷ up)) h (moved-move (closes node up o))
       )
 
   pub group-unclosed : length text ≤ at .place → after ≡ mid → end ≡ faulty at (at .place)
       → PartRead text words after from end allowed (λ up. inside (owner ∷ up)) (λ up. inside up)
   unfolding ended
   group-unclosed h w t =
-      part-then s r (part-faulty (at .place) t w (omega arith) (r .within) λ up k. readFrom-end text (at .place) (inside (node ∷ up)) h)
+      part-then s r (part-faulty (at .place) t w (omega arith) (r .within) λ up k. place-end text (at .place) (inside (node ∷ up)) h)

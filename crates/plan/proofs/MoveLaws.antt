@@ -19,29 +19,6 @@ use Rattle.plan.specs.Reading.{Expected, start, group, inside, Move, to,
 
 -- ---- the moves
 
-pub move-start : move start letterR ≡ to (root ∷ []) (group (fresh root ∷ []))
-unfolding move
-move-start = refl
-
-pub move-group : (up : List Node) → move (group up) opening ≡ to [] (inside up)
-unfolding move
-move-group up = refl
-
-module _ (n : Node) (up : List Node) where
-  pub move-closing : move (inside (n ∷ up)) closing ≡ to [] (inside up)
-  unfolding move moveItem
-  move-closing = refl
-
-  pub move-host : move (inside (n ∷ up)) letterH ≡ to (childIn (childOf n Host) ∷ []) (inside (childOf n Host .node ∷ up))
-  unfolding move moveItem
-  move-host = refl
-
-  pub move-router : length (n ∷ up) < mostGroups
-      → move (inside (n ∷ up)) letterR
-      ≡ to (childIn (childOf n Router) ∷ []) (group (fresh (childIn (childOf n Router)) ∷ childOf n Router .node ∷ up))
-  unfolding move moveItem
-  move-router room = rw (lt-ltb (length (n ∷ up)) mostGroups room)
-
 -- what a move that is no fault goes by
 pub data Moved : Expected → ℕ → List ℕ → Expected → Type 0 where
   starts : {o : ℕ} → o ≡ letterR → Moved start o (root ∷ []) (group (fresh root ∷ []))
@@ -53,11 +30,12 @@ pub data Moved : Expected → ℕ → List ℕ → Expected → Type 0 where
       → Moved (inside (n ∷ up)) o (childIn (childOf n Router) ∷ []) (group (fresh (childIn (childOf n Router)) ∷ childOf n Router .node ∷ up))
 
 pub moved-move : {e next : Expected} {o : ℕ} {given : List ℕ} → Moved e o given next → move e o ≡ to given next
-moved-move (starts e) = ap (move start) e ∙ move-start
-moved-move (opens up e) = ap (move (group up)) e ∙ move-group up
-moved-move (closes n up e) = ap (move (inside (n ∷ up))) e ∙ move-closing n up
-moved-move (hosts n up e) = ap (move (inside (n ∷ up))) e ∙ move-host n up
-moved-move (routers n up e room) = ap (move (inside (n ∷ up))) e ∙ move-router n up room
+unfolding move moveItem
+moved-move (starts e) = rw e
+moved-move (opens up e) = rw e
+moved-move (closes n up e) = rw e
+moved-move (hosts n up e) = rw e
+moved-move (routers n up e room) = rw (e, lt-ltb (length (n ∷ up)) mostGroups room)
 
 -- a byte is one of a move, or a fault
 pub data Outcome (e : Expected) (o : ℕ) : Type 0 where
@@ -89,6 +67,32 @@ outcome (group up) o = go (eqb o opening) refl
 outcome (inside []) o = stands refl
 outcome (inside (n ∷ up)) o =
     outcome-item n up o (eqb o closing) (eqb o letterH) (eqb o letterR && ltb (length (n ∷ up)) mostGroups) refl refl refl
+
+-- the faults: bytes of no move
+
+pub fault-start : (o : ℕ) → (o ≡ letterR → ⊥) → move start o ≡ fault
+fault-start o other = go (outcome start o)
+  where
+    go : Outcome start o → move start o ≡ fault
+    go (goes (starts e)) = absurd (other e)
+    go (stands f) = f
+
+pub fault-group : (up : List Node) (o : ℕ) → (o ≡ opening → ⊥) → move (group up) o ≡ fault
+fault-group up o other = go (outcome (group up) o)
+  where
+    go : Outcome (group up) o → move (group up) o ≡ fault
+    go (goes (opens up e)) = absurd (other e)
+    go (stands f) = f
+
+pub fault-item : (n : Node) (up : List Node) (o : ℕ) → (o ≡ closing → ⊥) → (o ≡ letterH → ⊥) → (o ≡ letterR → length (n ∷ up) < mostGroups → ⊥)
+    → move (inside (n ∷ up)) o ≡ fault
+fault-item n up o c h r = go (outcome (inside (n ∷ up)) o)
+  where
+    go : Outcome (inside (n ∷ up)) o → move (inside (n ∷ up)) o ≡ fault
+    go (goes (closes n up e)) = absurd (c e)
+    go (goes (hosts n up e)) = absurd (h e)
+    go (goes (routers n up e room)) = absurd (r e room)
+    go (stands f) = f
 
 -- ---- the reading of a byte
 
@@ -138,3 +142,12 @@ pub behind-faultAt : (given : List ℕ) (r : Reading) {place : ℕ} → behind g
 unfolding behind
 behind-faultAt given (whole others) e = let z : _≡_ {A = ℕ} 0 1 = cc in absurd (omega arith)
 behind-faultAt given (faultAt place) e = e
+
+-- ---- "R("
+
+pub readFrom-open : (p : ℕ) (e : Expected) (s : List ℕ) {given : List ℕ} {up : List Node} → move e letterR ≡ to given (group up)
+    → readFrom p e (letterR ∷ opening ∷ s) ≡ behind given (readFrom (suc (suc p)) (inside up) s)
+readFrom-open p e s {given} {up} m =
+    readFrom-to p e letterR (opening ∷ s) m
+    ∙ ap (behind given)
+    (readFrom-to (suc p) (group up) opening s (moved-move (opens up refl)) ∙ behind-nil (readFrom (suc (suc p)) (inside up) s))

@@ -10,7 +10,7 @@ use borrow.Author.Tests.{ltb-true, ltb-false}
 use lib.ListN.{length, drop}
 use lib.Dec.{ltb}
 use Rattle.address.specs.Choice.{if_then_else_}
-use Rattle.address.specs.Order.{First}
+use Rattle.address.specs.Order.{First, done, _when_otherwise_}
 use Rattle.address.proofs.OrderLaws.{given-exactly}
 use Rattle.plan.specs.Limits.{mostBytes, mostNodes}
 use Rattle.plan.specs.Grammar.{Items, Spells, Stops}
@@ -18,8 +18,8 @@ use Rattle.plan.specs.Hall.{hall, nodes, SomeTooLong}
 use Rattle.plan.specs.Reading.{Reading, whole, faultAt, reading}
 use Rattle.plan.specs.Plan.{PlanEffect, refusePlan, missing, listed, judged, planning}
 use Rattle.plan.specs.Refusals.{PlanOf, planOrder, PlanRefusals}
+use Rattle.plan.proofs.Answers.{length-hall}
 use Rattle.plan.proofs.Spelling.{of-the-plan}
-use Rattle.plan.proofs.Wholly.{length-hall}
 use Rattle.plan.proofs.Exact.{not-both, faultAt-stops, exactly-the-grammar}
 use Rattle.plan.proofs.TooLong.{too-long}
 
@@ -86,6 +86,15 @@ module _ (text words : List ℕ) where
 
 -- ---- what each end says
 
+-- past the conditions on the text and on the number of nodes
+past-nodes : {text : List ℕ} (words : List ℕ) {plan : Items} (k : ℕ) → length text ≤ mostBytes → Spells text plan → nodes plan ≤ mostNodes
+    → First (3 when PlanOf text SomeTooLong otherwise 10 when PlanOf text (λ plan. length words < nodes plan) otherwise done) k
+    → First (planOrder text words) k
+past-nodes words {plan} k short s few rest = inr (
+  λ l. omega arith,
+  inr (λ n. n (plan, s), inr (λ o. omega (arith, of-the-plan (λ (i : Items). mostNodes < nodes i) s o), rest)),
+)
+
 module _ {text words : List ℕ} where
   -- the first condition that holds is the end's
   pub end-first : {e : PlanEffect} → End text words e → First (planOrder text words) (e .answer .refusal)
@@ -93,38 +102,12 @@ module _ {text words : List ℕ} where
   end-first (manyBytes long) = inl (long, refl)
   end-first (outside short p s) = inr (λ l. omega arith, inl (λ t. not-both text p t s, refl))
   end-first (manyNodes short plan s many) = inr (λ l. omega arith, inr (λ n. n (plan, s), inl ((plan, s, many), refl)))
-  end-first (tooLong short plan s few long) =
-      inr (
-        λ l. omega arith,
-        inr (
-          λ n. n (plan, s),
-          inr (λ o. omega (arith, of-the-plan (λ (i : Items). mostNodes < nodes i) s o), inl ((plan, s, long), refl)),
-        ),
-      )
+  end-first (tooLong short plan s few long) = past-nodes words 3 short s few (inl ((plan, s, long), refl))
   end-first (noRoom short plan s few none full) =
-      inr (
-        λ l. omega arith,
-        inr (
-          λ n. n (plan, s),
-          inr (
-            λ o. omega (arith, of-the-plan (λ (i : Items). mostNodes < nodes i) s o),
-            inr (λ o. none (of-the-plan SomeTooLong s o), inl ((plan, s, full), refl)),
-          ),
-        ),
-      )
+      past-nodes words 10 short s few (inr (λ o. none (of-the-plan SomeTooLong s o), inl ((plan, s, full), refl)))
   end-first (fits short plan s few none room) =
-      inr (
-        λ l. omega arith,
-        inr (
-          λ n. n (plan, s),
-          inr (
-            λ o. omega (arith, of-the-plan (λ (i : Items). mostNodes < nodes i) s o),
-            inr (
-              λ o. none (of-the-plan SomeTooLong s o),
-              inr (λ o. omega (arith, of-the-plan (λ (i : Items). length words < nodes i) s o), refl),
-            ),
-          ),
-        ),
+      past-nodes words 0 short s few (
+      inr (λ o. none (of-the-plan SomeTooLong s o), inr (λ o. omega (arith, of-the-plan (λ (i : Items). length words < nodes i) s o), refl))
       )
 
   pub end-place : {e : PlanEffect} → End text words e → e .answer .refusal ≡ 13 → Stops text (e .answer .place)

@@ -17,7 +17,7 @@ apart : {o q : ℕ} {s t : List ℕ} {A : Type 0} → _≡_ {A = List ℕ} (o �
 apart e other = absurd (other (head-eq-of-cons-eq e))
 
 -- the items before a ")", and what is behind it
-pub one-items : (i j : Items) (s t : List ℕ) → itemsText i ++ closing ∷ s ≡ itemsText j ++ closing ∷ t → (i ≡ j) × (s ≡ t)
+one-items : (i j : Items) (s t : List ℕ) → itemsText i ++ closing ∷ s ≡ itemsText j ++ closing ∷ t → (i ≡ j) × (s ≡ t)
 unfolding itemsText
 one-items none none s t e = (refl, tail-eq-of-cons-eq e)
 one-items none (host j) s t e = apart e (λ z. omega arith)

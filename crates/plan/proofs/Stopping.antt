@@ -8,7 +8,8 @@ use native.Mathlib.Omega.{arith}
 use lib.ListN.{length, take}
 use Rattle.plan.specs.Reading.{Expected, start, group, inside, fault, move, whole, faultAt, ended, readFrom}
 use Rattle.plan.proofs.MoveLaws.{Moved, moved-move, Outcome, goes, stands, outcome, readFrom-to, readFrom-fault, behind-whole, behind-faultAt}
-use Rattle.plan.proofs.Completing.{nothing, Completes, Live, live-moved, completed, completes-from, Further, further, completes-to, completes-end}
+use Rattle.plan.proofs.Completing.{nothing, Completes, Live, live-moved, completed}
+use Rattle.plan.proofs.Completing.{completes-from, Further, further, completes-to, completes-end}
 
 no-whole : {place : ℕ} {given : List ℕ} {A : Type 0} → faultAt place ≡ whole given → A
 no-whole e = let z : _≡_ {A = ℕ} 0 1 = cc in absurd (omega arith)

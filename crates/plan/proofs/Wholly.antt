@@ -1,36 +1,20 @@
 -- A text of the grammar is read whole, with the addresses of its hall: the items of a group give the children that its node is asked for, one
 -- after another, and the reading goes on behind their ")". Assumes nothing.
 use Prim.Native.Nat.{ℕ, suc, _+_, _≤_}
-use mathlib.Core.Path.{_≡_, refl, sym, ap, ap₂, _∙_}
+use mathlib.Core.Path.{_≡_, refl, sym, ap, _∙_}
 use mathlib.Core.List.{List, [], _∷_, _++_, map, map-append, append-nil}
 use native.Mathlib.Omega.{arith}
-use lib.ListN.{length, length-append, length-map}
+use lib.ListN.{length, length-append}
 use Rattle.address.specs.Bits.{root}
 use Rattle.address.specs.declared.Kind.the-variants.{Router, Host}
 use Rattle.node.specs.Node.{fresh, childOf}
 use Rattle.node.specs.declared.Node.{Node}
 use Rattle.plan.specs.Limits.{mostGroups}
-use Rattle.plan.specs.Grammar.{letterR, letterH, opening, closing, Items, none, host, router, itemsText, planText, groupsOpen, Spells}
-use Rattle.plan.specs.Hall.{childIn, answers, hall, items, nodes}
-use Rattle.plan.specs.Reading.{start, group, inside, whole, behind, ended, readFrom, reading}
-use Rattle.plan.proofs.MoveLaws.{move-start, move-group, move-closing, move-host, move-router, readFrom-to, behind-nil, behind-append}
+use Rattle.plan.specs.Grammar.{letterH, closing, Items, none, host, router, itemsText, planText, groupsOpen, Spells}
+use Rattle.plan.specs.Hall.{childIn, answers, hall}
+use Rattle.plan.specs.Reading.{start, inside, whole, behind, ended, readFrom, reading}
+use Rattle.plan.proofs.MoveLaws.{starts, closes, hosts, routers, moved-move, readFrom-to, readFrom-open, behind-append}
 use Rattle.plan.proofs.Spelling.{itemsText-router}
-
--- ---- as many addresses as nodes
-
-pub length-answers : (n : Node) (i : Items) → length (answers n i) ≡ items i
-unfolding answers items
-length-answers n none = refl
-length-answers n (host i) = ap suc (length-answers (childOf n Host .node) i)
-length-answers n (router g i) =
-    ap suc (length-append (answers (fresh (childIn (childOf n Router))) g) (answers (childOf n Router .node) i)
-    ∙ ap₂ _+_ (length-answers (fresh (childIn (childOf n Router))) g) (length-answers (childOf n Router .node) i))
-
-pub length-hall : (plan : Items) → length (hall plan) ≡ nodes plan
-unfolding hall nodes
-length-hall plan = ap suc (length-map (answers (fresh root) plan) childIn ∙ length-answers (fresh root) plan)
-
--- ---- the reading of items
 
 -- the children that items give
 abbrev children : Node → Items → List ℕ
@@ -44,17 +28,17 @@ children-router n g i =
     (map-append childIn (answers (fresh (childIn (childOf n Router))) g) (answers (childOf n Router .node) i))
 
 -- up to the ")" of their group and past it
-pub readFrom-items : (i : Items) (p : ℕ) (n : Node) (up : List Node) (s : List ℕ) → length (n ∷ up) + groupsOpen i ≤ mostGroups
+readFrom-items : (i : Items) (p : ℕ) (n : Node) (up : List Node) (s : List ℕ) → length (n ∷ up) + groupsOpen i ≤ mostGroups
     → readFrom p (inside (n ∷ up)) (itemsText i ++ closing ∷ s)
     ≡ behind (map childIn (answers n i)) (readFrom (p + length (itemsText i) + 1) (inside up) s)
 unfolding itemsText groupsOpen answers
 readFrom-items none p n up s l =
     let place : suc p ≡ p + 0 + 1 = omega arith in
-    readFrom-to p (inside (n ∷ up)) closing s (move-closing n up) ∙ ap (λ (q : ℕ). behind [] (readFrom q (inside up) s)) place
+    readFrom-to p (inside (n ∷ up)) closing s (moved-move (closes n up refl)) ∙ ap (λ (q : ℕ). behind [] (readFrom q (inside up) s)) place
 readFrom-items (host i) p n up s l =
     let next = childOf n Host .node in
     let place : suc p + length (itemsText i) + 1 ≡ p + suc (length (itemsText i)) + 1 = omega arith in
-    readFrom-to p (inside (n ∷ up)) letterH (itemsText i ++ closing ∷ s) (move-host n up)
+    readFrom-to p (inside (n ∷ up)) letterH (itemsText i ++ closing ∷ s) (moved-move (hosts n up refl))
     ∙ ap (behind (childIn (childOf n Host) ∷ [])) (readFrom-items i (suc p) next up s l)
     ∙ sym (behind-append (childIn (childOf n Host) ∷ []) (children next i) (readFrom (suc p + length (itemsText i) + 1) (inside up) s))
     ∙ ap (λ (q : ℕ). behind (childIn (childOf n Host) ∷ children next i) (readFrom q (inside up) s)) place
@@ -67,25 +51,21 @@ readFrom-items (router g i) p n up s l =
     let place : mid + length (itemsText i) + 1 ≡ p + suc (suc (length (itemsText g ++ closing ∷ itemsText i))) + 1 =
     omega (arith, length-append (itemsText g) (closing ∷ itemsText i)) in
     ap (readFrom p (inside (n ∷ up))) (itemsText-router g i (closing ∷ s))
-    ∙ readFrom-to p (inside (n ∷ up)) letterR (opening ∷ (itemsText g ++ closing ∷ behindGroup)) (move-router n up (omega arith))
+    ∙ readFrom-open p (inside (n ∷ up)) (itemsText g ++ closing ∷ behindGroup) (moved-move (routers n up refl (omega arith)))
     ∙ ap (behind (own ∷ []))
-    (readFrom-to (suc p) (group (fresh own ∷ next ∷ up)) opening (itemsText g ++ closing ∷ behindGroup) (move-group (fresh own ∷ next ∷ up))
-    ∙ behind-nil (readFrom (suc (suc p)) (inside (fresh own ∷ next ∷ up)) (itemsText g ++ closing ∷ behindGroup))
-    ∙ readFrom-items g (suc (suc p)) (fresh own) (next ∷ up) behindGroup (omega arith)
+    (readFrom-items g (suc (suc p)) (fresh own) (next ∷ up) behindGroup (omega arith)
     ∙ ap (behind (children (fresh own) g))
     (readFrom-items i mid next up s (omega arith) ∙ ap (λ (q : ℕ). behind (children next i) (readFrom q (inside up) s)) place)
     ∙ sym (behind-append (children (fresh own) g) (children next i) last))
     ∙ sym (behind-append (own ∷ []) (children (fresh own) g ++ children next i) last)
     ∙ ap (λ (given : List ℕ). behind given last) (sym (children-router n g i))
 
-pub reading-planText : (plan : Items) → suc (groupsOpen plan) ≤ mostGroups → reading (planText plan) ≡ whole (hall plan)
+reading-planText : (plan : Items) → suc (groupsOpen plan) ≤ mostGroups → reading (planText plan) ≡ whole (hall plan)
 unfolding reading planText hall behind readFrom ended
 reading-planText plan within =
-    readFrom-to 0 start letterR (opening ∷ (itemsText plan ++ closing ∷ [])) move-start
+    readFrom-open 0 start (itemsText plan ++ closing ∷ []) (moved-move (starts refl))
     ∙ ap (behind (root ∷ []))
-    (readFrom-to 1 (group (fresh root ∷ [])) opening (itemsText plan ++ closing ∷ []) (move-group (fresh root ∷ []))
-    ∙ behind-nil (readFrom 2 (inside (fresh root ∷ [])) (itemsText plan ++ closing ∷ []))
-    ∙ readFrom-items plan 2 (fresh root) [] [] (omega arith)
+    (readFrom-items plan 2 (fresh root) [] [] (omega arith)
     ∙ ap whole (append-nil (children (fresh root) plan)))
 
 pub reading-spells : (text : List ℕ) (plan : Items) → Spells text plan → reading text ≡ whole (hall plan)

@@ -25,12 +25,15 @@ use Rattle.plan.specs.Hall.{answers, items, nodes, refusalOf, SomeTooLon
 use Rattle.plan.specs.Reading.{Expected, start, Move, to, fault, moveItem, move, Reading, whole, faultAt, behind, ended, readFrom, reading}
 use Rattle.plan.specs.Plan.{PlanEffect, refusePlan, missing, listed, judged, planning}
 use Rattle.plan.specs.Refusals.{PlanRefusals}
-use Rattle.plan.specs.WrongRules.{judgedBy, planningBy, rightParts, refusesAll, grammarFirst, letters, nodesFirst, roomFirst, placeFromOne, placeBeside, writesWithoutRoom, writesRoot, rootUncounted, readFromBy, moving, moveUnlimited, unlimited, withoutAddress, closingAddress, moveLate, routersLate}
+use Rattle.plan.specs.WrongRules.{judgedBy, planningBy, rightParts, refusesAll, grammarFirst, letters, nodesFirst, roomFirst}
+use Rattle.plan.specs.WrongRules.{placeFromOne, placeBeside, writesWithoutRoom, writesRoot, rootUncounted}
+use Rattle.plan.specs.WrongRules.{readFromBy, moving, moveUnlimited, unlimited, withoutAddress, closingAddress, moveLate, routersLate}
 use Rattle.plan.proofs.MoveLaws.{readFrom-fault}
+use Rattle.plan.proofs.Answers.{length-hall}
 use Rattle.plan.proofs.Spelling.{planText-one}
-use Rattle.plan.proofs.Wholly.{length-hall, reading-spells}
+use Rattle.plan.proofs.Wholly.{reading-spells}
 use Rattle.plan.proofs.Exact.{not-both, faultAt-stops}
-use Rattle.plan.proofs.TooLong.{Inner, inner-root, inner-next, inner-refusal}
+use Rattle.plan.proofs.Inner.{Inner, inner-root, inner-refusal, inner-next}
 use Rattle.plan.proofs.RefusalLaws.{tooLong}
 use Rattle.plan.proofs.OneRule.{only-end, one-rule}
 

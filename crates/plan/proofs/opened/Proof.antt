@@ -1,12 +1,12 @@
 -- `plan::opened` meets its contract: each exit is one law of what is matched.
 use mathlib.Core.Path.{refl}
+use mathlib.Core.List.{List}
+use Prim.Native.Nat.{ℕ}
 use native.Mathlib.Omega.{arith}
 use borrow.Author.Needs.{needs}
 use Rattle.plan.proofs.Openings.{matched-none, matched-other, matched-end, matched-first, matched-both}
 use Rattle.plan.proofs.opened.Statement.{statement}
 use Rattle.plan.proofs.opened.Tie as tie
-use Rattle.plan.proofs.opened.Reads as reads
-use Rattle.plan.proofs.opened.Lts as lts
 
 returns : tie.Need-returns
 returns c =
@@ -29,21 +29,27 @@ returns-3 c =
     let at = c .before .before .before .before .args in
     omega (arith, matched-end (at .text .now) (at .place) _ refl (omega arith) (c .before .if2 .left) (c .if3 .taken))
 
+abbrev text : tie.Else3 → List ℕ
+text c = c .before .before .before .before .args .text .now
+
+abbrev place : tie.Else3 → ℕ
+place c = c .before .before .before .before .args .place
+
 shared-slice-read-if4 : tie.Need-shared-slice-read-if4
 shared-slice-read-if4 c = search needs
 
 returns-4 : tie.Need-returns-4
 returns-4 c =
-    let at = c .before .before .before .before .before .before .args in
-    omega (arith, matched-first (at .text .now) (at .place) _ refl (omega arith) (c .before .before .before .if2 .left) (omega (arith, c .before .before .if3 .left)) (c .if4 .taken))
+    let at = c .before .before in
+    omega (arith, matched-first (text at) (place at) _ refl (omega arith) (at .before .if2 .left) (omega (arith, at .if3 .left)) (c .if4 .taken))
 
 add-result : tie.Need-add-result
 add-result c = search needs
 
 returns-5 : tie.Need-returns-5
 returns-5 c =
-    let at = c .before .before .before .before .before .before .args in
-    omega (arith, matched-both (at .text .now) (at .place) _ refl (omega arith) (c .before .before .before .if2 .left) (omega (arith, c .before .before .if3 .left)) (c .if4 .left))
+    let at = c .before .before in
+    omega (arith, matched-both (text at) (place at) _ refl (omega arith) (at .before .if2 .left) (omega (arith, at .if3 .left)) (c .if4 .left))
 
 pub opened-spec : {M : Type 1} → statement M
 opened-spec =
