@@ -15,13 +15,12 @@ use Rattle.plan.specs.Grammar.{Items, none, host, router, itemsText, planText, 
 use Rattle.plan.specs.Hall.{answers, nodes, hall}
 use Rattle.plan.specs.Reading.{whole, reading}
 use Rattle.plan.specs.Plan.{missing, listed, judged, planning}
-use Rattle.plan.proofs.Exact.{grammar, exactly-the-grammar}
+use Rattle.plan.proofs.Exact.{plan-or-place, exactly-the-grammar}
 use Rattle.plan.proofs.RefusalLaws.{plan-refusals}
 use Rattle.halls.specs.Requests.{requestsIn, requests}
 use Rattle.halls.specs.Halls.{letters, repliesTo}
 use Rattle.halls.specs.Example.{small}
 use Rattle.halls.proofs.ExampleLaws.{small-hall}
-use Rattle.halls.proofs.Counts.{nodes-letters}
 use Rattle.halls.proofs.Planned.{planned-halls}
 use Rattle.halls.proofs.Theorem.{halls-read}
 use Rattle.claims.specs.Plans.{TheText, TheHall, AHall, WhatIsRead}
@@ -50,10 +49,10 @@ the-text = record {
   isText = λ text. (λ h. h, λ h. h);
   isStart = λ text. (λ h. h, λ h. h);
   stops = λ text p. rw add-one (λ s. (s .start, s .stops), λ h. record { start = h .0; stops = h .1 });
-  onePlan = grammar .onePlan;
-  onePlace = grammar .onePlace;
-  either = grammar .either;
-  notBoth = grammar .notBoth;
+  onePlan = plan-or-place .onePlan;
+  onePlace = plan-or-place .onePlace;
+  either = plan-or-place .either;
+  notBoth = plan-or-place .notBoth;
 }
 
 other-byte : (o : ℕ) (text : List ℕ) → (o ≡ 82 → ⊥) → (o ≡ 72 → ⊥) → letters (o ∷ text) ≡ letters text
@@ -84,7 +83,7 @@ the-hall = record {
   letterH = λ text. refl;
   otherByte = other-byte;
   noByte = refl;
-  counted = λ plan. (nodes-letters plan, grammar .counted plan);
+  counted = planned-halls .counted;
   rootFirst = λ plan. refl;
   answeredNone = λ n. refl;
   answeredHost = λ n behind. refl;
@@ -115,7 +114,7 @@ what-is-read = record {
       record {
         plan = read .0;
         spelt = read .1;
-        number = counted .2 .0 ∙ ap nodes (grammar .onePlan text (counted .0) (read .0) (counted .1) (read .1));
+        number = counted .2 .0 ∙ ap nodes (plan-or-place .onePlan text (counted .0) (read .0) (counted .1) (read .1));
         listed = parts .0;
         behind = parts .1;
         differ = subst AllDiffer (sym (parts .0 ∙ listed .demand3 .nodes)) (listed .demand3 .differ);

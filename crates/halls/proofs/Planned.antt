@@ -11,20 +11,21 @@ use Rattle.tree.proofs.Growth.{sound-bareRoot}
 use Rattle.tree.proofs.Theorem.{demand-3}
 use Rattle.plan.specs.Grammar.{Items}
 use Rattle.plan.specs.Hall.{answers, hall, SomeTooLong}
+use Rattle.plan.proofs.Answers.{length-hall}
 use Rattle.halls.specs.Requests.{requests}
-use Rattle.halls.specs.Halls.{replyOf, repliesTo, SomeRefused, PlannedHalls}
+use Rattle.halls.specs.Halls.{replyOf, repliesTo, SomeRepliedThree, PlannedHalls}
 use Rattle.halls.proofs.Asking.{open-root}
 use Rattle.halls.proofs.Running.{run}
 use Rattle.halls.proofs.NoneRefused.{givenBy-answers}
 use Rattle.halls.proofs.TooLong.{three-refused}
-use Rattle.halls.proofs.LetterLaws.{letters-plan}
+use Rattle.halls.proofs.LetterLaws.{letters-plan, nodes-letters}
 
 module _ (plan : Items) where
   replies-plan : repliesTo plan ≡ map replyOf (answers (fresh root) plan)
   unfolding repliesTo requests
   replies-plan = run plan (fresh root) bareRoot sound-bareRoot open-root .answered
 
-  tooLong-plan : SomeTooLong plan ↔ SomeRefused plan
+  tooLong-plan : SomeTooLong plan ↔ SomeRepliedThree plan
   tooLong-plan =
       subst (λ (rs : List Reply). SomeTooLong plan ↔ List·Memᴰ (replied 3 0) rs) (sym replies-plan) (three-refused plan (fresh root))
 
@@ -40,5 +41,6 @@ planned-halls = record {
   answered = replies-plan;
   tooLong = tooLong-plan;
   tree = tree-plan;
+  counted = λ plan. (nodes-letters plan, length-hall plan);
   demand3 = λ plan. demand-3 (requests plan);
 }

@@ -15,16 +15,16 @@ use Rattle.plan.proofs.Answers.{length-hall}
 use Rattle.plan.proofs.RefusalLaws.{written, End, manyBytes, outside, manyNodes, tooLong, noRoom, fits, planning-end}
 use Rattle.plan.proofs.OneRule.{only-end, one-rule}
 use Rattle.halls.specs.Requests.{requests}
-use Rattle.halls.specs.Halls.{SomeRefused}
-use Rattle.halls.specs.HallsRead.{nodesOf, Listed, HallsRead}
+use Rattle.halls.specs.Halls.{SomeRepliedThree}
+use Rattle.halls.specs.HallsRead.{addressesOf, HallListed, HallsRead}
 use Rattle.halls.proofs.Planned.{planned-halls}
 
 -- the hall of a plan none of whose addresses is too long, as the tree of its requests
 listed-hall : (plan : Items) (effect : PlanEffect) (words : List ℕ) → (SomeTooLong plan → ⊥) → effect .answer .nodes ≡ nodes plan
-    → effect .words ≡ hall plan ++ drop (nodes plan) words → Listed plan effect words
+    → effect .words ≡ hall plan ++ drop (nodes plan) words → HallListed plan effect words
 listed-hall plan effect words free number put =
     let tree = planned-halls .tree plan free in
-    let many : nodes plan ≡ length (nodesOf plan) = sym (length-hall plan) ∙ ap length tree in
+    let many : nodes plan ≡ length (addressesOf plan) = sym (length-hall plan) ∙ ap length tree in
     record {
       number = number ∙ many;
       listed = put ∙ ap₂ (λ (l : List ℕ) (k : ℕ). l ++ drop k words) tree many;
@@ -32,7 +32,7 @@ listed-hall plan effect words free number put =
     }
 
 module _ {text words : List ℕ} where
-  end-listed : {e : PlanEffect} → End text words e → e .answer .refusal ≡ 0 → PlanOf text (λ plan. Listed plan e words)
+  end-listed : {e : PlanEffect} → End text words e → e .answer .refusal ≡ 0 → PlanOf text (λ plan. HallListed plan e words)
   unfolding refusePlan written
   end-listed (manyBytes long) z = absurd (omega arith)
   end-listed (outside short p s) z = absurd (omega arith)
@@ -42,7 +42,7 @@ module _ {text words : List ℕ} where
   end-listed (fits short plan s few none room) z = (plan, s, listed-hall plan (written plan words) words none refl refl)
 
   end-three : {e : PlanEffect} → End text words e → e .answer .refusal ≡ 3
-      → (length text ≤ mostBytes) × PlanOf text (λ plan. (nodes plan ≤ mostNodes) × SomeRefused plan)
+      → (length text ≤ mostBytes) × PlanOf text (λ plan. (nodes plan ≤ mostNodes) × SomeRepliedThree plan)
   unfolding refusePlan written
   end-three (manyBytes long) z = absurd (omega arith)
   end-three (outside short p s) z = absurd (omega arith)

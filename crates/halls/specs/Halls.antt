@@ -4,6 +4,7 @@ use Prim.Native.Nat.{ℕ}
 use mathlib.Core.Path.{_≡_}
 use mathlib.Core.Logic.{_↔_}
 use mathlib.Core.List.{List, [], _∷_, map, List·Memᴰ}
+use lib.ListN.{length}
 use lib.Dec.{eqb}
 use Rattle.address.specs.Choice.{if_then_else_}
 use Rattle.address.specs.Bits.{root}
@@ -15,7 +16,7 @@ use Rattle.packet.specs.Packet.{packetHop}
 use Rattle.tree.specs.Tree.{Request, request, bareRoot, Reply, replied, nobody, grow, grown, addresses}
 use Rattle.tree.specs.Demand3.{Demand3}
 use Rattle.plan.specs.Grammar.{Items, letterR, letterH, planText}
-use Rattle.plan.specs.Hall.{childIn, answers, hall, SomeTooLong}
+use Rattle.plan.specs.Hall.{childIn, answers, hall, nodes, SomeTooLong}
 use Rattle.halls.specs.Requests.{requests}
 
 unfoldable pub kindOf : Request → Kind
@@ -39,8 +40,8 @@ unfoldable pub repliesTo : Items → List Reply
 repliesTo plan = grow childOf bareRoot (requests plan) .replies
 
 -- "an address too long": some request of the plan is refused with 3, and "a refused one gives no address"
-abbrev pub SomeRefused : Items → Type 0
-SomeRefused plan = List·Memᴰ (replied 3 0) (repliesTo plan)
+abbrev pub SomeRepliedThree : Items → Type 0
+SomeRepliedThree plan = List·Memᴰ (replied 3 0) (repliesTo plan)
 
 pub record PlannedHalls : Type 0 where
   -- "The outermost R is the root", and every letter behind it asks for a child of its kind
@@ -48,8 +49,10 @@ pub record PlannedHalls : Type 0 where
   -- "Items get addresses left to right as they are met in the text": each item is answered as its request is
   pub answered : (plan : Items) → repliesTo plan ≡ map replyOf (answers (fresh root) plan)
   -- "an address too long": one of these requests is refused with 3
-  pub tooLong : (plan : Items) → SomeTooLong plan ↔ SomeRefused plan
+  pub tooLong : (plan : Items) → SomeTooLong plan ↔ SomeRepliedThree plan
   -- "The addresses in that order, the root first": those of the tree that grows by the requests, if none is too long
   pub tree : (plan : Items) → (SomeTooLong plan → ⊥) → hall plan ≡ addresses (grown childOf (requests plan))
+  -- "their number", "the root counted": a plan has as many nodes as its text has letters, and as many addresses
+  pub counted : (plan : Items) → (nodes plan ≡ length (letters (planText plan))) × (length (hall plan) ≡ nodes plan)
   -- the tree of every plan has demand 3
   pub demand3 : (plan : Items) → Demand3 childOf packetHop (requests plan)

@@ -15,22 +15,22 @@ use Rattle.plan.specs.Hall.{nodes}
 use Rattle.plan.specs.Plan.{PlanEffect}
 use Rattle.plan.specs.Refusals.{PlanOf}
 use Rattle.halls.specs.Requests.{requests}
-use Rattle.halls.specs.Halls.{SomeRefused}
+use Rattle.halls.specs.Halls.{SomeRepliedThree}
 
 -- the nodes of a plan's tree, in the order in which their addresses were given, the root first
-abbrev pub nodesOf : Items → List ℕ
-nodesOf plan = addresses (grown childOf (requests plan))
+abbrev pub addressesOf : Items → List ℕ
+addressesOf plan = addresses (grown childOf (requests plan))
 
 -- "The addresses in that order, the root first, go into a lent list of 64-bit words, and the answer gives their number.": they are a tree of
 -- demand 3
-pub record Listed (plan : Items) (effect : PlanEffect) (words : List ℕ) : Type 0 where
-  pub number : effect .answer .nodes ≡ length (nodesOf plan)
-  pub listed : effect .words ≡ nodesOf plan ++ drop (length (nodesOf plan)) words
+pub record HallListed (plan : Items) (effect : PlanEffect) (words : List ℕ) : Type 0 where
+  pub number : effect .answer .nodes ≡ length (addressesOf plan)
+  pub listed : effect .words ≡ addressesOf plan ++ drop (length (addressesOf plan)) words
   pub demand3 : Demand3 childOf packetHop (requests plan)
 
 -- a statement of any rule for reading a plan, so that a wrong one can be refuted by it
 pub record HallsRead (rule : List ℕ → List ℕ → PlanEffect) : Type 0 where
-  pub without : (text words : List ℕ) → rule text words .answer .refusal ≡ 0 → PlanOf text (λ plan. Listed plan (rule text words) words)
+  pub without : (text words : List ℕ) → rule text words .answer .refusal ≡ 0 → PlanOf text (λ plan. HallListed plan (rule text words) words)
   -- "Text over 4,096 bytes: 14. Then a text outside the grammar ..: 13 .. Then over 512 nodes, the root counted: 14. Then an address too long: 3."
   pub tooLong : (text words : List ℕ)
-      → (rule text words .answer .refusal ≡ 3) ↔ ((length text ≤ mostBytes) × PlanOf text (λ plan. (nodes plan ≤ mostNodes) × SomeRefused plan))
+      → (rule text words .answer .refusal ≡ 3) ↔ ((length text ≤ mostBytes) × PlanOf text (λ plan. (nodes plan ≤ mostNodes) × SomeRepliedThree plan))

@@ -11,8 +11,7 @@ use lib.Seq.{take-take}
 use Rattle.plan.specs.Grammar.{Items, Spells, IsText, IsStart, Stops}
 use Rattle.plan.specs.Hall.{hall}
 use Rattle.plan.specs.Reading.{start, Reading, whole, faultAt, reading}
-use Rattle.plan.specs.Exactly.{Grammar, ExactlyTheGrammar}
-use Rattle.plan.proofs.Answers.{length-hall}
+use Rattle.plan.specs.Exactly.{PlanOrPlace, ExactlyTheGrammar}
 use Rattle.plan.proofs.Spelling.{one-plan}
 use Rattle.plan.proofs.Completing.{completes-text}
 use Rattle.plan.proofs.Wholly.{reading-spells}
@@ -108,5 +107,5 @@ text-or-stops text = go (reading text) refl
     go (whole given) h = inl (whole-text text given h)
     go (faultAt p) h = inr (p, faultAt-stops text p h)
 
-pub grammar : Grammar
-grammar = record { onePlan = one-plan; onePlace = one-place; either = text-or-stops; notBoth = not-both; counted = length-hall }
+pub plan-or-place : PlanOrPlace
+plan-or-place = record { onePlan = one-plan; onePlace = one-place; either = text-or-stops; notBoth = not-both }

@@ -25,7 +25,7 @@ use Rattle.plan.specs.Hall.{answers, items, nodes, refusalOf, SomeTooLon
 use Rattle.plan.specs.Reading.{Expected, start, Move, to, fault, moveItem, move, Reading, whole, faultAt, behind, ended, readFrom, reading}
 use Rattle.plan.specs.Plan.{PlanEffect, refusePlan, missing, listed, judged, planning}
 use Rattle.plan.specs.Refusals.{PlanRefusals}
-use Rattle.plan.specs.WrongRules.{judgedBy, planningBy, rightParts, refusesAll, grammarFirst, letters, nodesFirst, roomFirst}
+use Rattle.plan.specs.WrongRules.{judgedBy, planningBy, rightParts, refusesAll, grammarFirst, letterCount, nodesFirst, roomFirst}
 use Rattle.plan.specs.WrongRules.{placeFromOne, placeBeside, writesWithoutRoom, writesRoot, rootUncounted}
 use Rattle.plan.specs.WrongRules.{readFromBy, moving, moveUnlimited, unlimited, withoutAddress, closingAddress, moveLate, routersLate}
 use Rattle.plan.proofs.MoveLaws.{readFrom-fault}
@@ -141,7 +141,7 @@ grammarFirst-refuted claim =
 
 -- 513 times "H": a fault, and not too many nodes
 pub nodesFirst-refuted : PlanRefusals nodesFirst → ⊥
-unfolding nodesFirst letters refusePlan
+unfolding nodesFirst letterCount refusePlan
 nodesFirst-refuted claim =
     let s = replicate 512 letterH in
     omega (arith, claim .given (letterH ∷ s) [] 13 .1 (inr (λ l. omega (arith, length-replicate 512 letterH), inl (no-text s, refl))))

@@ -4,21 +4,17 @@ use Prim.Native.Nat.{ℕ}
 use mathlib.Core.Path.{_≡_}
 use mathlib.Core.Logic.{_⊎_, _↔_}
 use mathlib.Core.List.{List}
-use lib.ListN.{length}
 use Rattle.plan.specs.Grammar.{Items, Spells, IsText, Stops}
-use Rattle.plan.specs.Hall.{hall, nodes}
+use Rattle.plan.specs.Hall.{hall}
 use Rattle.plan.specs.Reading.{whole, faultAt, reading}
 
--- the grammar by itself
-pub record Grammar : Type 0 where
-  -- a text spells one plan, and stops at one place
+-- the grammar by itself: a text spells one plan, or stops at one place
+pub record PlanOrPlace : Type 0 where
   pub onePlan : (text : List ℕ) (plan other : Items) → Spells text plan → Spells text other → plan ≡ other
   pub onePlace : (text : List ℕ) (p q : ℕ) → Stops text p → Stops text q → p ≡ q
   -- every text is one of the grammar, or stops somewhere, and not both
   pub either : (text : List ℕ) → IsText text ⊎ ((p : ℕ) × Stops text p)
   pub notBoth : (text : List ℕ) (p : ℕ) → IsText text → Stops text p → ⊥
-  -- a plan has as many addresses as nodes
-  pub counted : (plan : Items) → length (hall plan) ≡ nodes plan
 
 -- the reading, by the grammar
 pub record ExactlyTheGrammar : Type 0 where

@@ -54,12 +54,12 @@ unfoldable pub grammarFirst : PlanRule
 grammarFirst text words = judged (reading text) words
 
 -- the second 14 before 13: nodes counted by their letters, in the grammar or out of it
-unfoldable pub letters : List ℕ → ℕ
-letters [] = 0
-letters (o ∷ text) = if eqb o letterR || eqb o letterH then suc (letters text) else letters text
+unfoldable pub letterCount : List ℕ → ℕ
+letterCount [] = 0
+letterCount (o ∷ text) = if eqb o letterR || eqb o letterH then suc (letterCount text) else letterCount text
 
 unfoldable pub nodesFirst : PlanRule
-nodesFirst text words = if ltb mostNodes (letters text) then refusePlan 14 0 words else planning text words
+nodesFirst text words = if ltb mostNodes (letterCount text) then refusePlan 14 0 words else planning text words
 
 -- 10 before 3
 unfoldable pub roomFirst : PlanRule
