@@ -1,17 +1,16 @@
 -- The front page's lines on a hall's plan, each taken from the record that carries it. Assumes nothing.
-use Prim.Native.Nat.{ℕ, suc, _+_, _≤_}
+use Prim.Native.Nat.{ℕ, _+_}
 use mathlib.Core.Path.{_≡_, refl, sym, ap, ap₂, subst, _∙_}
 use mathlib.Core.Logic.{_⊎_, inl, inr}
-use mathlib.Core.List.{List, [], _∷_, _++_, map, List·Memᴰ}
+use mathlib.Core.List.{List, [], _∷_, _++_}
 use native.Mathlib.Numerals.{add-one}
 use native.Mathlib.Omega.{arith}
 use borrow.Author.Tests.{ne-eqb}
-use lib.ListN.{length, take, drop, length-map}
+use lib.ListN.{length, take, drop}
 use lib.Seq.{take-append-seam, drop-append-seam}
-use Rattle.node.specs.Node.{fresh, childOf}
+use Rattle.node.specs.Node.{childOf}
 use Rattle.tree.specs.Tree.{grown, addresses, AllDiffer}
-use Rattle.tree.proofs.Theorem.{demand-3}
-use Rattle.plan.specs.Grammar.{Items, none, host, router, itemsText, planText, groupsOpen, Spells}
+use Rattle.plan.specs.Grammar.{Items, none, host, router, itemsText, planText, groupsOpen}
 use Rattle.plan.specs.Hall.{answers, nodes, hall}
 use Rattle.plan.specs.Reading.{whole, reading}
 use Rattle.plan.specs.Plan.{missing, listed, judged, planning}
@@ -23,7 +22,7 @@ use Rattle.halls.specs.Example.{small}
 use Rattle.halls.proofs.ExampleLaws.{small-hall}
 use Rattle.halls.proofs.Planned.{planned-halls}
 use Rattle.halls.proofs.Theorem.{halls-read}
-use Rattle.claims.specs.Plans.{TheText, TheHall, AHall, WhatIsRead}
+use Rattle.claims.specs.Plans.{TheText, TheHall, WhatIsRead}
 
 no-other-item : (items : Items)
     → (items ≡ none) ⊎ ((behind : Items) × (items ≡ host behind)) ⊎ ((group : Items) × (behind : Items) × (items ≡ router group behind))

@@ -139,9 +139,6 @@ part-then {text} {words} {mid} {after} {from} {at} {to} {allowed} {before} {midd
 
 -- stores keep the number of words
 
-pub length-stored : (words : List ℕ) (i a : ℕ) {after : List ℕ} → after ≡ set words i a → length after ≡ length words
-length-stored words i a e = ap length e ∙ length-set words i a
-
 pub length-part : {text words after : List ℕ} {from to : Progress} {allowed : ℕ} {before behindIt : List Node → Expected}
     → PartRead text words after from to allowed before behindIt → length after ≡ length words
 length-part {text} {words} {after} {from} r = ap length (r .stored) ∙ length-sets words (from .nodes) (r .given)

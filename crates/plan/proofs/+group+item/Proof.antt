@@ -15,7 +15,7 @@ use Rattle.plan.specs.Reading.{inside}
 use Rattle.plan.specs.Progress.{Progress, PartRead}
 use Rattle.plan.proofs.Openings.{matched-le}
 use Rattle.plan.proofs.Missing.{missing-le}
-use Rattle.plan.proofs.Parts.{faulty, part-none, part-then, part-stopped, length-stored, length-part}
+use Rattle.plan.proofs.Parts.{faulty, part-none, part-then, part-stopped, length-part}
 use Rattle.plan.proofs.ItemLaws.{item-host, item-full, item-unopened, item-router, group-closed, group-unclosed}
 use Rattle.plan.proofs.group.Reads as group
 use Rattle.plan.proofs.group.Kinds as group-kinds
@@ -202,11 +202,7 @@ item-count-requires t c κs =
     (omega (arith, pre .1, pre .3), omega (arith, pre .1, pre .3, pre .4))
 
 item-same-length : ItemNeed item-lts.Need-same-length
-item-same-length t c =
-    let stored = c .before .before .before in
-    let asked = stored .before .before .before .before in
-    let at = asked .before .before .before .before .before .args in
-    length-stored (at .words .now) (at .from .nodes) (asked .child .result .child .number) (stored .put .ensures)
+item-same-length t c = c .before .before .before .put .kept .1 .1 .0
 
 item-returns : ItemNeed item-lts.Need-returns
 item-returns t c =
@@ -297,11 +293,8 @@ item-group-requires t c κs =
 
 item-same-length-2 : ItemNeed item-lts.Need-same-length-2
 item-same-length-2 t c =
-    let stored = c .before .before .before .before .before .before .before .before in
-    let asked = stored .before .before .before .before in
-    let at = asked .before .before .before .before .before .before .before .before .args in
     length-part (c .before .before .group .ensures)
-    ∙ length-stored (at .words .now) (at .from .nodes) (asked .child2 .result .child .number) (stored .put2 .ensures)
+    ∙ c .before .before .before .before .before .before .before .before .put2 .kept .1 .1 .0
 
 item-returns-4 : ItemNeed item-lts.Need-returns-4
 item-returns-4 t c =

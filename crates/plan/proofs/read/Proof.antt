@@ -21,7 +21,7 @@ refuse-requires c κs = tt
 returns : tie.Need-returns
 returns c =
     let at = c .before .before .before .before .args in
-    let long = planning-bytes (at .text .now) (at .words .now) (c .before .if1 .taken) in
+    let long = planning-bytes (at .text .now) (at .words .now) (omega (arith, c .before .if1 .taken)) in
     effect-refused (at .text .now) (at .words .now) long (c .refuse .ensures) refl
 
 sub-hall : tie.Need-sub-hall
