@@ -6,7 +6,7 @@ use mathlib.Core.Logic.{_⊎_, _↔_}
 use mathlib.Core.List.{List, [], _∷_, _++_}
 use lib.ListN.{length, take, drop, replicate}
 use lib.Count.{leadingZeros}
-use Rattle.address.specs.Bits.{Bit, O, I, bits, number, root}
+use Rattle.address.specs.Bits.{Bit, O, I, bits, number}
 use Rattle.address.specs.Steps.{Step, child, steps, stepBits, spelled, addressOf}
 use Rattle.address.specs.Address.{bitLength, isHost, depth, parent}
 use Rattle.address.specs.Numbers.{IsAddressString, IsAddress}

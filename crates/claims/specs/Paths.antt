@@ -6,7 +6,7 @@ use mathlib.Core.Logic.{_⊎_, _↔_}
 use mathlib.Core.List.{List, [], _∷_, _++_, map}
 use lib.ListN.{length, take}
 use Rattle.address.specs.Bits.{Bit, O, I, bits}
-use Rattle.address.specs.Steps.{Step, steps}
+use Rattle.address.specs.Steps.{Step}
 use Rattle.address.specs.Address.{bitLength}
 use Rattle.address.specs.declared.Kind.{Kind}
 use Rattle.address.specs.Numbers.{IsAddress}
