@@ -1,7 +1,7 @@
 -- The front page's lines, each taken from the record that carries it: a clause that is dropped there breaks the page. Assumes nothing.
 use Prim.Native.Nat.{ℕ, _+_, _*_, _-_, _^_, _<_, _≤_}
 use mathlib.Core.Path.{_≡_, refl, sym, ap, ap₂, _∙_}
-use mathlib.Core.List.{List, [], _∷_, _++_, map}
+use mathlib.Core.List.{List, [], _∷_, _++_, map, append-nil}
 use mathlib.Core.Bool.{true}
 use mathlib.Core.Logic.{_⊎_, inl, inr, ⊎-elim, _↔_}
 use native.Mathlib.Nat.{add-zero}
@@ -13,6 +13,7 @@ use lib.ListN.{length}
 use Rattle.address.specs.Bits.{Bit, O, I, lastBit, bitsIn, bits, digit, numberFrom, number}
 use Rattle.address.specs.declared.Kind.the-variants.{Router, Host}
 use Rattle.address.specs.Steps.{Step, child, lastStep, cut, stepsOf, steps, lastOf, stepBits, spelled, addressOf}
+use Rattle.address.specs.Order.{_then_}
 use Rattle.address.specs.Address.{bitLength, isHost, depth, above, parent}
 use Rattle.address.specs.Numbers.{IsAddress}
 use Rattle.address.proofs.Numbers.{one-to-one, number-snoc, leadingZeros-bitLength}
@@ -29,7 +30,7 @@ use Rattle.octets.proofs.Promises.{put-asks-nothing, get-promise, get-asks-noth
 use Rattle.search.specs.Search.{childEnd, firstBits}
 use Rattle.search.proofs.Words.{search-words}
 use Rattle.search.proofs.Promises.{child-end-promise, child-end-asks-nothing, first-bits-promise, first-bits-asks-nothing}
-use Rattle.header.specs.Header.{headerAnswer, place, header}
+use Rattle.header.specs.Header.{headerAnswer, place, header, reading}
 use Rattle.header.proofs.Size.{fewest-pairs, size-exactly}
 use Rattle.header.proofs.Writing.{length-header}
 use Rattle.header.proofs.Demand2.{header-round-trip}
@@ -87,8 +88,8 @@ use Rattle.plan.proofs.WrongRules.{refusesAll-refuted as refusesAllPlans-refute
 use Rattle.plan.proofs.Promises.{read-asks-nothing as plan-read-asks-nothing}
 use Rattle.known.specs.Known.{table}
 use Rattle.known.proofs.Proved.{known-values}
-use Rattle.tree.specs.Tree.{Request, request, Tree, bareRoot, recordOf, replaced, answered, askedOf, ask, grow, grown, givenBy, givenIn, addresses as addressesOf, InTree, Walk, here, along}
-use Rattle.tree.proofs.Runs.{grown-snoc, ask-given, ask-refused, ask-nobody}
+use Rattle.tree.specs.Tree.{Request, request, Tree, bareRoot, recordOf, replaced, answered, askedOf, Reply, ask, grow, grown, givenBy, givenIn, addresses as addressesOf, InTree, Walk, here, along}
+use Rattle.tree.proofs.Runs.{grown-snoc, ask-given, ask-refused, ask-nobody, replies-append}
 use Rattle.tree.specs.Demand3.{Arrives}
 use Rattle.packet.specs.Packet.{packetHop}
 use Rattle.tree.proofs.Growth.{sound-grown}
@@ -98,7 +99,7 @@ use Rattle.tree.proofs.WrongHops.{refusesEverything-refuted, parentToAll-refute
 use Rattle.pasa.proofs.Promises.{node-of-promise as pasa-node-of-promise, node-of-asks-nothing as pasa-node-of-asks-nothing, fresh-promise as pasa-fresh-promise, child-router-promise as pasa-child-router-promise, child-host-promise as pasa-child-host-promise, next-hop-promise as pasa-next-hop-promise, packet-next-hop-promise as pasa-packet-next-hop-promise, next-hops-promise as pasa-next-hops-promise, header-write-promise as pasa-header-write-promise, header-read-promise as pasa-header-read-promise, ipv6-write-promise as pasa-ipv6-write-promise, ipv6-read-promise as pasa-ipv6-read-promise, path-promise as pasa-path-promise, plan-read-promise as pasa-plan-read-promise, plan-read-asks-nothing as pasa-plan-read-asks-nothing, fresh-asks-nothing as pasa-fresh-asks-nothing, child-router-asks-nothing as pasa-child-router-asks-nothing, child-host-asks-nothing as pasa-child-host-asks-nothing, next-hop-asks-nothing as pasa-next-hop-asks-nothing, packet-next-hop-asks-nothing as pasa-packet-next-hop-asks-nothing, next-hops-asks-nothing as pasa-next-hops-asks-nothing, header-write-asks-nothing as pasa-header-write-asks-nothing, header-read-asks-nothing as pasa-header-read-asks-nothing, ipv6-write-asks-nothing as pasa-ipv6-write-asks-nothing, ipv6-read-asks-nothing as pasa-ipv6-read-asks-nothing, path-asks-nothing as pasa-path-asks-nothing}
 use Rattle.pasa.proofs.AddressPromises.{parent-promise as pasa-parent-promise, depth-promise as pasa-depth-promise, bit-length-promise as pasa-bit-length-promise, is-host-promise as pasa-is-host-promise, interface-promise as pasa-interface-promise, parent-asks-nothing as pasa-parent-asks-nothing, depth-asks-nothing as pasa-depth-asks-nothing, bit-length-asks-nothing as pasa-bit-length-asks-nothing, is-host-asks-nothing as pasa-is-host-asks-nothing, interface-asks-nothing as pasa-interface-asks-nothing}
 use Rattle.claims.specs.Addresses.{Addresses, Children}
-use Rattle.claims.specs.Demand1.{ExactlyWhen, NothingBeside, PlaceOfThirteen, OnlyTheNamed}
+use Rattle.claims.specs.Demand1.{Orders, ExactlyWhen, NothingBeside, PlaceOfThirteen, OnlyTheNamed}
 use Rattle.claims.specs.Demand2.{Headers, Forms}
 use Rattle.claims.specs.Demand3.{treeOf, Growth, TreeWords, EveryList}
 use Rattle.claims.specs.NextHop.{HopAnswers, NextHop}
@@ -172,6 +173,7 @@ unfolding fresh count raised
 children = record {
   goodRecords = good-records;
   goodWritten = λ n. (good-cases n, λ h. ⊎-elim (λ i. inner (i .0) (i .1) (i .2)) (λ o. outer (o .0) (o .1) (o .2)) h);
+  badRecords = λ n. (λ h. h, λ h. h);
   ownAddress = λ n. refl;
   ownCount = λ n. (refl, refl);
   raisedRouters = λ n. refl;
@@ -212,12 +214,27 @@ next-hop = record {
 
 -- ---- demand 1
 
+pub orders : Orders
+unfolding _then_
+orders = record {
+  exactly = λ order refusal. (λ h. h, λ h. h);
+  firstOfNone = λ r. (λ h. h, λ h. h);
+  firstOfMore = λ n r condition rest. (λ h. h, λ h. h);
+  noneBefore = λ order. refl;
+  moreBefore = λ n condition rest order. refl;
+}
+
+packet-unread : (n : Node) (p : List ℕ) → IsGood n → (reading p .refusal ≡ 0 → ⊥) → packetHop n p .refusal ≡ reading p .refusal
+unfolding packetHop
+packet-unread n p g r = rw (good-records n .1 g, ne-eqb (reading p .refusal) 0 r)
+
 pub exactly-when : ExactlyWhen
 exactly-when = record {
   anAddress = address-refusals .given;
   aChild = child-refusals .given;
   aNextHop = hop-refusals .given;
   aPacket = packet-refusals .given;
+  aPacketUnread = packet-unread;
   aHeaderOut = header-write-refusals .given;
   aHeaderBack = header-read-refusals .given;
   aFormOut = form-write-refusals .given;
@@ -315,6 +332,12 @@ growth = record {
   nobody = λ rs a kind e. grown-snoc childOf rs (request a kind) ∙ ask-nobody childOf (treeOf rs) a kind e;
 }
 
+replied-last : (rs : List Request) (r : Request)
+    → grow childOf bareRoot (rs ++ (r ∷ [])) .replies ≡ grow childOf bareRoot rs .replies ++ ask childOf (treeOf rs) r .replies
+unfolding grown grow
+replied-last rs r =
+    replies-append childOf bareRoot rs (r ∷ []) ∙ ap (λ (l : List Reply). grow childOf bareRoot rs .replies ++ l) (append-nil (ask childOf (treeOf rs) r .replies))
+
 pub tree-words : TreeWords
 unfolding addressesOf recordOf replaced ask askedOf answered grow givenIn givenBy bareRoot
 tree-words = record {
@@ -329,6 +352,8 @@ tree-words = record {
   repliedAbsent = λ t a kind e. rw e;
   repliedNone = λ t. refl;
   repliedOneByOne = λ t r rs. refl;
+  bare = refl;
+  repliedLast = replied-last;
   given = λ rs. refl;
   givenNone = refl;
   givenChild = λ a rs. refl;

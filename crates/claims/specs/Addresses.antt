@@ -18,7 +18,7 @@ use Rattle.address.specs.declared.Kind.the-variants.{Router, Host}
 use Rattle.search.specs.Search.{lookedAt, childEnd, firstBits, sameBit, isPrefix}
 use Rattle.search.specs.Exactly.{Stops}
 use Rattle.node.specs.Node.{addressIn, count, raised, isGood, fresh, childOf}
-use Rattle.node.specs.Refusals.{IsGood}
+use Rattle.node.specs.Refusals.{IsGood, IsBad}
 use Rattle.node.specs.declared.Node.{Node}
 
 pub record Addresses : Type 0 where
@@ -73,6 +73,7 @@ pub record Children : Type 0 where
       × (n .routers ≤ 64 - bitLength (n .address .number)) × (n .hosts ≤ 64 - bitLength (n .address .number)))
       ⊎ (IsHost (n .address .number) × (n .routers ≡ 0) × (n .hosts ≡ 0))
       )
+  pub badRecords : (n : Node) → IsBad n ↔ (IsGood n → ⊥)
   -- "A node record is its address with two counts: router children and host children given so far.": each kind has its own
   pub ownAddress : (n : Node) → addressIn n ≡ n .address .number
   pub ownCount : (n : Node) → (count Router n ≡ n .routers) × (count Host n ≡ n .hosts)

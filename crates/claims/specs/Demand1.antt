@@ -3,10 +3,10 @@
 -- of every number that the refusal is this number exactly if its condition holds and none before it does.
 use Prim.Native.Nat.{ℕ, _+_, _-_, _^_, _<_, _≤_}
 use mathlib.Core.Path.{_≡_}
-use mathlib.Core.Logic.{_⊎_}
+use mathlib.Core.Logic.{_⊎_, _↔_}
 use mathlib.Core.List.{List, _++_, map, List·Memᴰ}
 use lib.ListN.{length, take, drop, getD, replicate}
-use Rattle.address.specs.Order.{done, _when_otherwise_, _then_, GivenExactly}
+use Rattle.address.specs.Order.{Order, done, _when_otherwise_, _then_, First, GivenExactly}
 use Rattle.address.specs.Address.{made, bitLength}
 use Rattle.address.specs.Kinds.{IsHost}
 use Rattle.address.specs.declared.Kind.{Kind}
@@ -15,7 +15,7 @@ use Rattle.header.specs.Header.{IsSize, header, writing, reading}
 use Rattle.header.specs.Refusals.{readingOrder}
 use Rattle.ipv6.specs.Form.{form, formWriting, formReading}
 use Rattle.node.specs.Node.{addressIn, fresh, count, childOf}
-use Rattle.node.specs.Refusals.{IsBad}
+use Rattle.node.specs.Refusals.{IsGood, IsBad}
 use Rattle.node.specs.declared.Node.{Node}
 use Rattle.node.specs.declared.Given.{Given}
 use Rattle.forward.specs.Forward.{stop, nextHop}
@@ -26,6 +26,16 @@ use Rattle.line.specs.Line.{outputText, answering}
 use Rattle.plan.specs.Grammar.{Items, Spells, IsText, Stops}
 use Rattle.plan.specs.Hall.{answers, hall, nodes}
 use Rattle.plan.specs.Plan.{planning}
+
+-- what an order says: the first condition that holds gives its number, and 0 is given where none does
+pub record Orders : Type 1 where
+  pub exactly : (order : Order) (refusal : ℕ) → GivenExactly order refusal ↔ ((k : ℕ) → (refusal ≡ k) ↔ First order k)
+  pub firstOfNone : (r : ℕ) → First done r ↔ (r ≡ 0)
+  pub firstOfMore : (n r : ℕ) (condition : Type 0) (rest : Order)
+      → First (n when condition otherwise rest) r ↔ ((condition × (r ≡ n)) ⊎ ((condition → ⊥) × First rest r))
+  pub noneBefore : (order : Order) → (done then order) ≡ order
+  pub moreBefore : (n : ℕ) (condition : Type 0) (rest order : Order)
+      → ((n when condition otherwise rest) then order) ≡ (n when condition otherwise (rest then order))
 
 -- "is given exactly when that document says"
 pub record ExactlyWhen : Type 0 where
@@ -54,6 +64,8 @@ pub record ExactlyWhen : Type 0 where
       then readingOrder p
       then (7 when ChildNotGiven n (reading p .address) otherwise done)
       ) (packetHop n p .refusal)
+  -- the reading's refusals are the packet's, with a good record
+  pub aPacketUnread : (n : Node) (p : List ℕ) → IsGood n → (reading p .refusal ≡ 0 → ⊥) → packetHop n p .refusal ≡ reading p .refusal
   -- "For writing a header 9, 10.": "lent output too short"
   pub aHeaderOut : (a : ℕ) (buffer : List ℕ)
       → GivenExactly (

@@ -14,7 +14,7 @@ use Rattle.node.specs.declared.Node.{Node}
 use Rattle.node.specs.Node.{addressIn, fresh, childOf}
 use Rattle.packet.specs.Packet.{packetHop}
 use Rattle.route.specs.Path.{path}
-use Rattle.tree.specs.Tree.{Request, request, Tree, standing, absent, recordOf, replaced, Reply, replied, nobody, ask, grow, grown, givenBy, givenIn, addresses, InTree, AllDiffer, Walk}
+use Rattle.tree.specs.Tree.{Request, request, Tree, bareRoot, standing, absent, recordOf, replaced, Reply, replied, nobody, ask, grow, grown, givenBy, givenIn, addresses, InTree, AllDiffer, Walk}
 use Rattle.tree.specs.Way.{IsPacket, TheWay, deliveredAt, stoppedAt}
 use Rattle.tree.specs.Demand3.{IsAncestor}
 
@@ -57,6 +57,9 @@ pub record TreeWords : Type 0 where
   pub repliedNone : (t : Tree) → grow childOf t [] .replies ≡ []
   pub repliedOneByOne : (t : Tree) (r : Request) (rs : List Request)
       → grow childOf t (r ∷ rs) .replies ≡ ask childOf t r .replies ++ grow childOf (ask childOf t r .tree) rs .replies
+  pub bare : bareRoot ≡ fresh 1 ∷ []
+  pub repliedLast : (rs : List Request) (r : Request)
+      → grow childOf bareRoot (rs ++ (r ∷ [])) .replies ≡ grow childOf bareRoot rs .replies ++ ask childOf (treeOf rs) r .replies
   -- the addresses given are those replied with 0
   pub given : (rs : List Request) → givenIn childOf rs ≡ givenBy (grow childOf (fresh 1 ∷ []) rs .replies)
   pub givenNone : givenBy [] ≡ []

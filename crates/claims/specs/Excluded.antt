@@ -105,10 +105,10 @@ pub record WrongPlanRules : Type 0 where
   -- a place counted from 1; a place beside another refusal
   pub withPlaceFromOne : PlanRefusals placeFromOne → ⊥
   pub withPlaceBeside : PlanRefusals placeBeside → ⊥
-  -- words written in a refusal: without room, and before the text is read
+  -- words written in a refusal: without room, and of a text with a fault
   pub thatWritesWithoutRoom : PlanRefusals writesWithoutRoom → ⊥
   pub thatWritesTheRoot : PlanRefusals writesRoot → ⊥
-  -- "the root counted": without it
+  -- "the answer gives their number": without the root
   pub withRootUncounted : PlanRefusals rootUncounted → ⊥
   -- "a 65th open group counts": it does not
   pub withGroupsUnlimited : PlanRefusals unlimited → ⊥

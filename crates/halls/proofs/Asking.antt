@@ -20,12 +20,11 @@ use Rattle.node.proofs.Children.{addressIn-fresh, addressIn-raised, MayGive, ch
 use Rattle.tree.specs.Tree.{request, Tree, bareRoot, standing, absent, recordOf, replaced, ask, InTree}
 use Rattle.tree.proofs.Sound.{Sound}
 use Rattle.tree.proofs.Trees.{inTree-recordOf, recordOf-absent, recordOf-single, replaced-recordOf}
-use Rattle.tree.proofs.Runs.{ask-given, ask-refused, ask-nobody}
+use Rattle.tree.proofs.Runs.{ask-given, ask-refused, ask-nobody, replies-standing, replies-absent}
 use Rattle.tree.proofs.Growth.{is-new, recordOf-asked, recordOf-new, recordOf-other}
 use Rattle.plan.specs.Hall.{childIn, refusalOf}
 use Rattle.halls.specs.Halls.{replyOf}
 use Rattle.plan.proofs.Inner.{Inner, inner-root, inner-gives, inner-refusal, inner-child}
-use Rattle.halls.proofs.Runs.{replies-standing, replies-absent}
 
 -- a group's node: it stands in the tree with this record, and is the root or a router; or it was refused
 pub data Open (n : Node) (t : Tree) : Type 0 where

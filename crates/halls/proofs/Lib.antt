@@ -1,6 +1,5 @@
 -- The proof that a hall that is read is a tree of demand 3: a plan's requests run through the tree as its items are answered, and what is given
 -- is its hall.
-mod Runs
 mod Asking
 mod Running
 mod NoneRefused

@@ -12,13 +12,12 @@ use Rattle.node.proofs.GivenChildren.{gives-children}
 use Rattle.tree.specs.Tree.{request, Tree, recordOf, Reply, Grown, ask, grow, InTree}
 use Rattle.tree.proofs.Sound.{Sound}
 use Rattle.tree.proofs.Trees.{inTree-recordOf}
-use Rattle.tree.proofs.Runs.{grow-append}
+use Rattle.tree.proofs.Runs.{grow-append, replies-append}
 use Rattle.tree.proofs.Growth.{sound-ask, sound-grow}
 use Rattle.plan.specs.Grammar.{Items, none, host, router}
 use Rattle.plan.specs.Hall.{childIn, answers}
 use Rattle.halls.specs.Requests.{requestsIn}
 use Rattle.halls.specs.Halls.{replyOf}
-use Rattle.halls.proofs.Runs.{replies-append}
 use Rattle.halls.proofs.Asking.{Open, stands, refused, Stays, asked, replies-asked}
 
 pub record Run (n : Node) (items : Items) (t : Tree) (run : Grown) : Type 0 where

@@ -31,6 +31,6 @@ pub record HallListed (plan : Items) (effect : PlanEffect) (words : List ℕ) : 
 -- a statement of any rule for reading a plan, so that a wrong one can be refuted by it
 pub record HallsRead (rule : List ℕ → List ℕ → PlanEffect) : Type 0 where
   pub without : (text words : List ℕ) → rule text words .answer .refusal ≡ 0 → PlanOf text (λ plan. HallListed plan (rule text words) words)
-  -- "Text over 4,096 bytes: 14. Then a text outside the grammar ..: 13 .. Then over 512 nodes, the root counted: 14. Then an address too long: 3."
+  -- "Then an address too long: 3.", where the text is not too long, is one of the grammar, and has not too many nodes
   pub tooLong : (text words : List ℕ)
       → (rule text words .answer .refusal ≡ 3) ↔ ((length text ≤ mostBytes) × PlanOf text (λ plan. (nodes plan ≤ mostNodes) × SomeRepliedThree plan))

@@ -19,7 +19,7 @@ use Rattle.node.proofs.ChildLaws.{room}
 use Rattle.node.proofs.Children.{count-raised, count-le}
 use Rattle.node.proofs.RefusalLaws.{child-refusals}
 use Rattle.node.proofs.GivenChildren.{gives-children}
-use Rattle.plan.specs.Limits.{mostNodes}
+use Rattle.plan.specs.Limits.{mostBytes, mostNodes}
 use Rattle.plan.specs.Grammar.{letterR, letterH, opening, closing, Items, none, host, router, itemsText, planText, groupsOpen, Spells, IsText}
 use Rattle.plan.specs.Hall.{answers, items, nodes, refusalOf, SomeTooLong}
 use Rattle.plan.specs.Reading.{Expected, start, Move, to, fault, moveItem, move, Reading, whole, faultAt, behind, ended, readFrom, reading}
@@ -129,22 +129,22 @@ no-text : (s : List ℕ) → IsText (letterH ∷ s) → ⊥
 unfolding move
 no-text s t = not-both (letterH ∷ s) 0 t (faultAt-stops (letterH ∷ s) 0 (unfold reading in readFrom-fault 0 start letterH s refl))
 
--- 4,097 times "H": too many bytes, and not a fault
+-- a byte too many, all of them "H": too many bytes, and not a fault
 pub grammarFirst-refuted : PlanRefusals grammarFirst → ⊥
 unfolding grammarFirst judged refusePlan reading move
 grammarFirst-refuted claim =
-    let s = replicate 4096 letterH in
-    let long : 4096 < suc (length s) = omega (arith, length-replicate 4096 letterH) in
+    let s = replicate mostBytes letterH in
+    let long : mostBytes < suc (length s) = omega (arith, length-replicate mostBytes letterH) in
     let made = ap (λ (r : Reading). judged r [] .answer .refusal) (readFrom-fault 0 start letterH s refl) in
     let right = claim .given (letterH ∷ s) [] 14 .1 (inl (long, refl)) in
     omega arith
 
--- 513 times "H": a fault, and not too many nodes
+-- more "H" than nodes are allowed: a fault, and not too many nodes
 pub nodesFirst-refuted : PlanRefusals nodesFirst → ⊥
 unfolding nodesFirst letterCount refusePlan
 nodesFirst-refuted claim =
-    let s = replicate 512 letterH in
-    omega (arith, claim .given (letterH ∷ s) [] 13 .1 (inr (λ l. omega (arith, length-replicate 512 letterH), inl (no-text s, refl))))
+    let s = replicate mostNodes letterH in
+    omega (arith, claim .given (letterH ∷ s) [] 13 .1 (inr (λ l. omega (arith, length-replicate mostNodes letterH), inl (no-text s, refl))))
 
 -- ---- so many hosts
 

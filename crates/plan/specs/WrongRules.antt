@@ -82,11 +82,11 @@ unfoldable pub writesWithoutRoom : PlanRule
 writesWithoutRoom = planningBy (listing (λ given words.
     if eqb (listed given words .answer .refusal) 10 then refusePlan 10 0 (take (length words) given) else listed given words))
 
--- the root's address, written before the text is read
+-- the root's address, written although the text has a fault
 unfoldable pub writesRoot : PlanRule
 writesRoot = planningBy (record { read = reading; list = listed; faulty = λ place words. refusePlan 13 place (set words 0 root) })
 
--- "the root counted": without it
+-- "the answer gives their number": without the root
 unfoldable pub rootUncounted : PlanRule
 rootUncounted = planningBy (listing (λ given words.
     let right = listed given words in
