@@ -4,12 +4,11 @@ use address::Kind;
 use node::Node;
 ghost use mathlib.Core.Path.{_≡_};
 ghost use mathlib.Core.Bool.{true, false};
-ghost use mathlib.Core.List.{List, _∷_, []};
+ghost use mathlib.Core.List.{_∷_, []};
 ghost use Prim.Native.Nat.{_+_, _<_, _≤_, _^_};
 ghost use lib.ListN.{length, drop, set, getD};
-ghost use Rattle.plan.specs.Limits.{mostGroups};
 ghost use Rattle.plan.specs.Grammar.{closing};
-ghost use Rattle.plan.specs.Reading.{inside, start};
+ghost use Rattle.plan.specs.Reading.{inside};
 ghost use Rattle.plan.specs.Plan.{missing, planning};
 ghost use Rattle.plan.specs.Progress.{matched, PartRead, HallRead};
 
@@ -126,6 +125,9 @@ fn opened(text: &[u8], place: usize) -> usize
     }
     next + 1
 }
+
+// "A group holds items and an item may hold a group": these two call each other, and with each group that an item opens there is one fewer that
+// may be open.
 
 // Reads an item of a group, with as many more groups allowed to be open.
 fn item(text: &[u8], from: Progress, node: Node, allowed: u32, words: &mut [u64]) -> AfterItem
