@@ -5,8 +5,25 @@ ghost use Rattle.address.specs.Bits.{bits};
 ghost use Rattle.search.specs.Search.{childEnd, firstBits};
 
 // Where the bits of the next child on the way to an address end, counted from the front, where the first `from` bits are behind: at the
-// first 0, or at the last bit.
+// first 0, or at the last bit. The ones before it are counted in one operation.
 pub fn child_end(address: Address, from: u32) -> u32
+    ensures { λ r. ⌜ r ≡ childEnd from (bits (address .number)) ⌝ }
+{
+    let length = address.bit_length();
+    if length <= from {
+        return from;
+    }
+    // The search stops at the last bit, whatever it is, as it stops at a 0: with a 0 there, it passes ones and stops at a 0.
+    let even = address.number / 2 * 2;
+    // What is behind the first `from` bits, at the word's high end: one bit at least, so the shift is below the width.
+    let behind = even << (Address::LONGEST - (length - from));
+    let ones = u64::leading_zeros(!behind);
+    from + ones + 1
+}
+
+// The same by a loop over the bits, as the document says it: "look at D's bits after C one at a time and stop at the first 0 or at D's last
+// bit".
+pub fn child_end_by_bits(address: Address, from: u32) -> u32
     ensures { λ r. ⌜ r ≡ childEnd from (bits (address .number)) ⌝ }
 {
     let length = address.bit_length();

@@ -1,73 +1,60 @@
--- `child_end` meets its contract: however many ones were passed, the child's bits end where they do from here.
-use mathlib.Core.Path.{_≡_, refl, sym, _∙_}
-use Prim.Native.Nat.{_-_}
+-- `child_end` meets its contract: the leading zeros of the opposite word are the ones that the search passes.
+use mathlib.Core.Path.{sym}
+use Prim.Native.Nat.{ℕ, _+_, _≤_}
+use mir.Syntax.{w32}
+use mir.Val.{Fits}
 use borrow.Author.Needs.{needs}
 use native.Mathlib.Omega.{arith}
-use Rattle.address.specs.Bits.{bits}
-use Rattle.search.specs.Search.{childEnd}
+use lib.Count.{leadingZeros, leading-le}
+use Rattle.address.specs.Bits.{longest}
 use Rattle.address.proofs.Numbers.{bitLength-le}
-use Rattle.search.proofs.SearchLaws.{childEnd-past, childEnd-zero, childEnd-one}
+use Rattle.search.proofs.SearchLaws.{childEnd-past}
+use Rattle.search.proofs.Ones.{childEnd-count}
 use Rattle.search.proofs.child_end.Statement.{statement}
 use Rattle.search.proofs.child_end.Tie as tie
 
-abbrev Inv-loop : tie.InvT-loop
-Inv-loop address from length at₀ at = childEnd at₀ (bits (address .number)) ≡ childEnd at (bits (address .number))
+-- neither sum is long: an address's bits and as many ones, and one more
 
-abbrev μ-loop : tie.MeasureT-loop
-μ-loop address from length at₀ at = length - at
+passed-fits : (from x : ℕ) → from ≤ longest → Fits w32 (from + leadingZeros longest x)
+passed-fits from x h = omega (arith, leading-le longest x)
 
-bit-length-requires : tie.Need-bit-length-requires Inv-loop μ-loop
+end-fits : (from x : ℕ) → from ≤ longest → Fits w32 (from + leadingZeros longest x + 1)
+end-fits from x h = omega (arith, leading-le longest x)
+
+bit-length-requires : tie.Need-bit-length-requires
 bit-length-requires c κs = search needs
 
-loop-holds : tie.Need-loop-holds Inv-loop μ-loop
-loop-holds c = refl
+returns : tie.Need-returns
+returns c = sym (childEnd-past _ (omega arith) (c .before .bit-length .ensures) (omega arith))
 
-sub-bit : tie.Need-sub-bit Inv-loop μ-loop
-sub-bit c = omega arith
-
-sub-bit-2 : tie.Need-sub-bit-2 Inv-loop μ-loop
-sub-bit-2 c = omega arith
-
-cast-bit : tie.Need-cast-bit Inv-loop μ-loop
-cast-bit c = omega (arith, bitLength-le {n = c .before .before .before .args .address .number} (omega arith))
-
-shr-bit : tie.Need-shr-bit Inv-loop μ-loop
-shr-bit c = omega (arith, bitLength-le {n = c .before .before .before .before .args .address .number} (omega arith))
-
-add-at : tie.Need-add-at Inv-loop μ-loop
-add-at c = omega (arith, bitLength-le {n = c .before .before .before .before .args .address .number} (omega arith))
-
-loop-less : tie.Need-loop-less Inv-loop μ-loop
-loop-less c = omega arith
-
-loop-again : tie.Need-loop-again Inv-loop μ-loop
-loop-again c =
-    c .before .before .before .loop .inv
-    ∙ childEnd-one _ (omega arith) (c .before .before .before .before .bit-length .ensures) (omega arith) (omega arith)
-
-returns : tie.Need-returns Inv-loop μ-loop
-returns c = sym (c .before .loop .inv ∙ childEnd-past _ (omega arith) (c .before .before .bit-length .ensures) (omega arith))
-
-returns-2 : tie.Need-returns-2 Inv-loop μ-loop
+returns-2 : tie.Need-returns-2
 returns-2 c =
-    sym
-    (c .before .before .before .loop .inv
-    ∙ childEnd-zero _ (omega arith) (c .before .before .before .before .bit-length .ensures) (omega arith) (omega arith))
+    omega (arith, childEnd-count (omega arith) (c .before .before .bit-length .ensures) (c .before .before .before .args .from) (omega arith))
+
+mul-even : tie.Need-mul-even
+mul-even c = search needs
+
+sub-behind : tie.Need-sub-behind
+sub-behind c = search needs
+
+sub-behind-2 : tie.Need-sub-behind-2
+sub-behind-2 c = omega (arith, bitLength-le {n = c .before .before .before .args .address .number} (omega arith))
+
+cast-behind : tie.Need-cast-behind
+cast-behind c = search needs
+
+shl-behind : tie.Need-shl-behind
+shl-behind c = search needs
+
+from-le : (c : tie.After-struct-known) → c .before .before .before .args .from ≤ longest
+from-le c = omega (arith, bitLength-le {n = c .before .before .before .args .address .number} (omega arith))
+
+add-result : tie.Need-add-result
+add-result c = passed-fits _ _ (from-le c)
+
+add-result-2 : tie.Need-add-result-2
+add-result-2 c = end-fits _ _ (from-le c)
 
 pub child-end-spec : {M : Type 1} → statement M
 child-end-spec =
-    tie.close
-    (tie.spec
-    Inv-loop
-    μ-loop
-    bit-length-requires
-    loop-holds
-    sub-bit
-    sub-bit-2
-    cast-bit
-    shr-bit
-    add-at
-    loop-less
-    loop-again
-    returns
-    returns-2)
+    tie.close (tie.spec bit-length-requires returns mul-even sub-behind sub-behind-2 cast-behind shl-behind add-result add-result-2 returns-2)
