@@ -29,7 +29,9 @@ use Rattle.octets.proofs.Correspondence.{octets-one-to-one, same-exactly}
 use Rattle.octets.proofs.Promises.{put-asks-nothing, get-promise, get-asks-nothing}
 use Rattle.search.specs.Search.{childEnd, firstBits}
 use Rattle.search.proofs.Words.{search-words}
-use Rattle.search.proofs.Promises.{child-end-promise, child-end-asks-nothing, first-bits-promise, first-bits-asks-nothing}
+use Rattle.search.proofs.SearchLaws.{childEnd-past}
+use Rattle.search.proofs.Ones.{childEnd-count}
+use Rattle.search.proofs.Promises.{child-end-promise, child-end-asks-nothing, child-end-by-bits-promise, child-end-by-bits-asks-nothing, same-child-end, first-bits-promise, first-bits-asks-nothing}
 use Rattle.header.specs.Header.{headerAnswer, place, header, reading}
 use Rattle.header.proofs.Size.{fewest-pairs, size-exactly}
 use Rattle.header.proofs.Writing.{length-header}
@@ -106,7 +108,7 @@ use Rattle.claims.specs.NextHop.{HopAnswers, NextHop}
 use Rattle.claims.specs.Paths.{ThePath, exampleLine, exampleText, refusal11, hopsWord, binary, eachOnALine, TheLine}
 use Rattle.claims.specs.Structs.{Cases, OneAnswer, Fields}
 use Rattle.claims.specs.Excluded.{KnownRows, WrongNextHops, WrongChildren, OnePlanRule, WrongPlanRules, WrongWritersAndReaders, HoldOfOurs}
-use Rattle.claims.specs.Code.{AsksNothing, AnswersAsDefined}
+use Rattle.claims.specs.Code.{AsksNothing, AnswersAsDefined, TheSearch}
 use Rattle.claims.specs.Exports.{ExportsAskNothing, ExportsAnswerAsDefined}
 
 -- ---- what an address is
@@ -549,6 +551,7 @@ asks-nothing = record {
   octetsPut = put-asks-nothing;
   octetsGet = get-asks-nothing;
   searchChildEnd = child-end-asks-nothing;
+  searchChildEndByBits = child-end-by-bits-asks-nothing;
   searchFirstBits = first-bits-asks-nothing;
   nodeCount = count-asks-nothing;
   nodeIsGood = is-good-asks-nothing;
@@ -579,6 +582,7 @@ answers-as-defined = record {
   octetsPut = λ κs number out out′ r h. h;
   octetsGet = get-promise;
   searchChildEnd = child-end-promise;
+  searchChildEndByBits = child-end-by-bits-promise;
   searchFirstBits = first-bits-promise;
   nodeCount = count-promise;
   nodeIsGood = is-good-promise;
@@ -596,6 +600,13 @@ answers-as-defined = record {
   batchHop = pasa-hop-promise;
   batchNextHops = batch-next-hops-promise;
   pasaNodeOf = pasa-node-of-promise;
+}
+
+pub the-search : TheSearch
+the-search = record {
+  oneCount = λ a from h l. childEnd-count h refl from l;
+  noneBehind = λ a from h l. childEnd-past from h refl l;
+  sameAnswers = same-child-end;
 }
 
 -- ---- the exports

@@ -1,11 +1,12 @@
 -- What the code promises is what the claims speak of. `Asked` and `Learnt` are read off the functions' own contracts: what a caller must show, and
 -- what it learns of the result and of all that was lent. Each
 -- public function asks nothing, and what it answers is what its definition says; the exports have a page of their own.
-use Prim.Native.Nat.{ℕ, _%_, _^_}
+use Prim.Native.Nat.{ℕ, _+_, _-_, _*_, _/_, _%_, _^_, _<_, _≤_}
 use mathlib.Core.Path.{_≡_}
 use mathlib.Core.Bool.{Bool}
 use mathlib.Core.List.{List}
 use lib.ListN.{length}
+use lib.Count.{leadingZeros}
 use contract.Lifetimes.{Lfts}
 use denote.Ref.{RefT, now}
 use Rattle.address.specs.declared.Address.{Address}
@@ -44,6 +45,7 @@ use Rattle.address.proofs.Address.parent.Reads as parent-reads
 use Rattle.octets.proofs.put.Reads as put-reads
 use Rattle.octets.proofs.get.Reads as get-reads
 use Rattle.search.proofs.child_end.Reads as child-end-reads
+use Rattle.search.proofs.child_end_by_bits.Reads as child-end-by-bits-reads
 use Rattle.search.proofs.first_bits.Reads as first-bits-reads
 use Rattle.node.proofs.Node.count.Reads as count-reads
 use Rattle.node.proofs.Node.is_good.Reads as is-good-reads
@@ -76,6 +78,7 @@ pub record AsksNothing : Type 0 where
   pub octetsPut : (κs : Lfts 1) (number : ℕ) (out : Slice) → put-reads.Asked κs (number, (out, tt))
   pub octetsGet : (κs : Lfts 1) (from : Slice) → get-reads.Asked κs (from, tt)
   pub searchChildEnd : (a : Address) (from : ℕ) → child-end-reads.Asked tt (a, (from, tt))
+  pub searchChildEndByBits : (a : Address) (from : ℕ) → child-end-by-bits-reads.Asked tt (a, (from, tt))
   pub searchFirstBits : (a : Address) (count : ℕ) → first-bits-reads.Asked tt (a, (count, tt))
   pub nodeCount : (n : Node) (kind : Kind) → count-reads.Asked tt (n, (kind, tt))
   pub nodeIsGood : (n : Node) → is-good-reads.Asked tt (n, tt)
@@ -106,6 +109,8 @@ pub record AnswersAsDefined : Type 0 where
       → now out′ ≡ octets (length (now out)) number
   pub octetsGet : (κs : Lfts 1) (from : Slice) (r : ℕ) → get-reads.Learnt κs (from, tt) r (from, tt) → r ≡ value (now from) % 2 ^ 64
   pub searchChildEnd : (a : Address) (from r : ℕ) → child-end-reads.Learnt tt (a, (from, tt)) r (a, (from, tt)) → r ≡ childEnd from (bits (a .number))
+  pub searchChildEndByBits : (a : Address) (from r : ℕ) → child-end-by-bits-reads.Learnt tt (a, (from, tt)) r (a, (from, tt))
+      → r ≡ childEnd from (bits (a .number))
   pub searchFirstBits : (a : Address) (count : ℕ) (r : Address) → first-bits-reads.Learnt tt (a, (count, tt)) r (a, (count, tt))
       → r .number ≡ firstBits count (a .number)
   pub nodeCount : (n : Node) (kind : Kind) (r : ℕ) → count-reads.Learnt tt (n, (kind, tt)) r (n, (kind, tt)) → r ≡ count kind n
@@ -137,3 +142,14 @@ pub record AnswersAsDefined : Type 0 where
       → _≡_ {A = BatchEffect} record { count = r; nodes = now nodes′; actions = now actions′; refusals = now refusals′ }
       (nextHops n (now ds) (now nodes) (now actions) (now refusals))
   pub pasaNodeOf : (n : PasaNode) (r : Node) → node-of-reads.Learnt tt (n, tt) r (n, tt) → r ≡ nodeOf n
+
+-- request Two: "Count the run of ones in one operation. Answers and users of the search stay as they are."
+pub record TheSearch : Type 0 where
+  -- behind the first `from` bits of a, the ones before the next child's last bit are the leading zeros of one word: a with a 0 for its last bit,
+  -- shifted until the first `from` bits are gone, and every bit of it turned over
+  pub oneCount : (a from : ℕ) → a < 2 ^ 64 → from < bitLength a
+      → childEnd from (bits a) ≡ from + leadingZeros 64 (2 ^ 64 - 1 - a / 2 * 2 * 2 ^ (64 - (bitLength a - from)) % 2 ^ 64) + 1
+  pub noneBehind : (a from : ℕ) → a < 2 ^ 64 → bitLength a ≤ from → childEnd from (bits a) ≡ from
+  -- the search by that count and the one bit by bit, "look at D's bits after C one at a time", answer the same
+  pub sameAnswers : (a : Address) (from r s : ℕ) → child-end-reads.Learnt tt (a, (from, tt)) r (a, (from, tt))
+      → child-end-by-bits-reads.Learnt tt (a, (from, tt)) s (a, (from, tt)) → r ≡ s

@@ -13,9 +13,9 @@ pub fn child_end(address: Address, from: u32) -> u32
     if length <= from {
         return from;
     }
-    // The search stops at the last bit, whatever it is, as it stops at a 0: with a 0 there, it passes ones and stops at a 0.
+    // The last bit ends the search as a 0 does: with a 0 there, an address has a 0 wherever the search stops.
     let even = address.number / 2 * 2;
-    // What is behind the first `from` bits, at the word's high end: one bit at least, so the shift is below the width.
+    // The bits behind the first `from`, at the word's high end: one at least, so the shift is less than the width.
     let behind = even << (Address::LONGEST - (length - from));
     let ones = u64::leading_zeros(!behind);
     from + ones + 1
