@@ -4,12 +4,14 @@
 //! Each row is the least of many rounds over the inputs, the two sides taking turns, in nanoseconds for one input. `called` is the Rust
 //! version behind a call that is not inlined, as every call of the archive is; `inlined` is the Rust version in the loop itself.
 //!
-//! Run it by `cargo run --release --offline --example bench`.
+//! Run it by `cargo run --release --offline --example bench`. With a name (`longest run`, `mixed`) it goes through these inputs once by each
+//! side and times nothing: examples/bench/count has callgrind count the instructions of that.
 mod simple;
 
 use pasa::sys::{self, Child, Hop, Listed, Node, Plan, Read, Written};
 use pasa::{Address, PLAN_NODES};
 use std::collections::HashMap;
+use std::env;
 use std::hint::black_box;
 use std::time::Instant;
 
@@ -175,45 +177,86 @@ fn plan(random: &mut Random) -> Vec<u8> {
     text
 }
 
-fn main() {
-    let random = &mut Random(2);
-    println!("| function | proved, ns | Rust called, ns | ratio | Rust inlined, ns | ratio |\n|---|---|---|---|---|---|");
+/// Destinations of packets at one node.
+struct Traffic {
+    name: &'static str,
+    node: Node,
+    destinations: Vec<u64>,
+}
 
-    // A node of the hall with many children, and destinations of the whole hall.
-    let hall = hall(random, HALL);
+/// At a node of the hall that has many children: destinations of the whole hall.
+fn in_the_hall(random: &mut Random, hall: &[Node]) -> Traffic {
     let routers = |node: &&Node| node.address > 1 && node.address % 2 == 0;
     let node = *hall.iter().filter(routers).max_by_key(|node| node.routers + node.hosts).unwrap();
-    let mut anyone = || hall[random.below(HALL as u64) as usize];
-    let destinations: Vec<u64> = (0..INPUTS).map(|_| anyone().address).collect();
-    // Destinations that begin with the node's address: most are below a child that isn't given.
-    let below: Vec<u64> = (0..INPUTS)
-        .map(|_| {
-            let more = random.below(u64::from(node.address.leading_zeros())) as u32;
-            node.address << more | random.next() & ((1 << more) - 1)
-        })
-        .collect();
-    let (mut nodes, mut actions, mut refusals) = (vec![0; INPUTS], vec![0; INPUTS], vec![0; INPUTS]);
-    let (mut nodes2, mut actions2, mut refusals2) = (vec![0; INPUTS], vec![0; INPUTS], vec![0; INPUTS]);
-    let batch = |destinations: &[u64], nodes: &mut [u64], actions: &mut [u8], refusals: &mut [u8]| unsafe {
-        sys::pasa_next_hops(
-            node,
-            destinations.as_ptr(),
-            destinations.len(),
-            nodes.as_mut_ptr(),
-            nodes.len(),
-            actions.as_mut_ptr(),
-            actions.len(),
-            refusals.as_mut_ptr(),
-            refusals.len(),
-        )
+    let destinations = (0..INPUTS).map(|_| hall[random.below(HALL as u64) as usize].address).collect();
+    Traffic { name: "in the hall", node, destinations }
+}
+
+/// Destinations that begin with the node's address: most are below a child that isn't given.
+fn below_the_node(random: &mut Random, node: Node) -> Traffic {
+    let below = |_| {
+        let more = random.below(u64::from(node.address.leading_zeros())) as u32;
+        node.address << more | random.next() & ((1 << more) - 1)
     };
-    for (name, destinations) in [("in the hall", &destinations), ("below the node", &below)] {
+    Traffic { name: "below the node", node, destinations: (0..INPUTS).map(below).collect() }
+}
+
+/// The longest run of ones that a search can pass: the root's last host, 64 ones.
+fn longest_run() -> Traffic {
+    Traffic { name: "longest run", node: Node { address: 1, routers: 63, hosts: 63 }, destinations: vec![u64::MAX; INPUTS] }
+}
+
+/// One of the first's and one of the second's destinations by turns, at the first's node.
+fn mixed(first: &Traffic, second: &Traffic) -> Traffic {
+    let turns = first.destinations.iter().zip(&second.destinations).flat_map(|(a, b)| [*a, *b]);
+    Traffic { name: "mixed", node: first.node, destinations: turns.take(INPUTS).collect() }
+}
+
+/// What a batch writes.
+#[derive(PartialEq)]
+struct Answers {
+    nodes: Vec<u64>,
+    actions: Vec<u8>,
+    refusals: Vec<u8>,
+}
+
+impl Answers {
+    fn new() -> Self {
+        Answers { nodes: vec![0; INPUTS], actions: vec![0; INPUTS], refusals: vec![0; INPUTS] }
+    }
+}
+
+impl Traffic {
+    fn batch(&self, out: &mut Answers) -> usize {
+        unsafe {
+            sys::pasa_next_hops(
+                self.node,
+                self.destinations.as_ptr(),
+                self.destinations.len(),
+                out.nodes.as_mut_ptr(),
+                out.nodes.len(),
+                out.actions.as_mut_ptr(),
+                out.actions.len(),
+                out.refusals.as_mut_ptr(),
+                out.refusals.len(),
+            )
+        }
+    }
+
+    fn called_batch(&self, out: &mut Answers) -> usize {
+        called_next_hops(self.node, &self.destinations, &mut out.nodes, &mut out.actions, &mut out.refusals)
+    }
+
+    /// Both sides' answers compared, then a row for single calls and one for a batch.
+    fn rows(&self) {
+        let Traffic { name, node, ref destinations } = *self;
+        let (mut out, mut out2) = (Answers::new(), Answers::new());
         for d in destinations {
             assert_eq!(next_hop(node, *d), simple::next_hop(node, *d), "{node:?} {d:#b}");
         }
-        assert_eq!(batch(destinations, &mut nodes, &mut actions, &mut refusals), INPUTS);
-        simple::next_hops(node, destinations, &mut nodes2, &mut actions2, &mut refusals2);
-        assert!(nodes == nodes2 && actions == actions2 && refusals == refusals2);
+        assert_eq!(self.batch(&mut out), INPUTS);
+        assert_eq!(self.called_batch(&mut out2), INPUTS);
+        assert!(out == out2);
         row(
             &format!("next hop, one call, {name}"),
             times([
@@ -224,15 +267,48 @@ fn main() {
         );
         let [proved, rust] = times([
             &mut || {
-                black_box(batch(black_box(destinations), &mut nodes, &mut actions, &mut refusals));
+                black_box(black_box(self).batch(&mut out));
             },
             &mut || {
-                black_box(called_next_hops(node, black_box(destinations), &mut nodes2, &mut actions2, &mut refusals2));
+                black_box(black_box(self).called_batch(&mut out2));
             },
         ]);
         println!("| next hop, batch, {name} | {proved:.2} | {rust:.2} | {:.2} | | |", proved / rust);
     }
 
+    /// Each function of each side once for each destination, to be counted from outside.
+    fn once(&self) {
+        let mut out = Answers::new();
+        let mut words = [0; 126];
+        for d in &self.destinations {
+            black_box(next_hop(self.node, *d));
+            black_box(called_next_hop(self.node, *d));
+            black_box(path(self.node.address, *d, &mut words));
+            black_box(called_path(self.node.address, *d, &mut words));
+        }
+        black_box(self.batch(&mut out));
+        black_box(self.called_batch(&mut out));
+        println!("{INPUTS} inputs");
+    }
+}
+
+fn main() {
+    let random = &mut Random(2);
+    let hall = hall(random, HALL);
+    let in_the_hall = in_the_hall(random, &hall);
+    let below_the_node = below_the_node(random, in_the_hall.node);
+    let longest_run = longest_run();
+    if let Some(name) = env::args().nth(1) {
+        let mixed = mixed(&in_the_hall, &below_the_node);
+        let named = [&longest_run, &mixed].into_iter().find(|traffic| traffic.name == name);
+        return named.expect("longest run, or mixed").once();
+    }
+    println!("| function | proved, ns | Rust called, ns | ratio | Rust inlined, ns | ratio |\n|---|---|---|---|---|---|");
+    for traffic in [&in_the_hall, &below_the_node, &longest_run] {
+        traffic.rows();
+    }
+
+    let Traffic { node, ref destinations, .. } = in_the_hall;
     let records: Vec<Node> = (0..INPUTS).map(|_| hall[random.below(HALL as u64) as usize]).collect();
     for node in &records {
         assert_eq!(router(*node), simple::child(*node, false), "{node:?}");
@@ -337,18 +413,18 @@ fn main() {
     }
     sorted.sort();
     sorted.shrink_to_fit();
-    let mut nodes3 = vec![0; INPUTS];
+    let (mut out, mut out2, mut out3) = (Answers::new(), Answers::new(), Answers::new());
     let [proved, hashed, searched] = times([
         &mut || {
-            black_box(batch(black_box(&destinations), &mut nodes, &mut actions, &mut refusals));
+            black_box(black_box(&in_the_hall).batch(&mut out));
         },
         &mut || {
-            for (d, out) in black_box(&destinations).iter().zip(&mut nodes2) {
+            for (d, out) in black_box(destinations).iter().zip(&mut out2.nodes) {
                 *out = map.get(d).copied().unwrap_or(0);
             }
         },
         &mut || {
-            for (d, out) in black_box(&destinations).iter().zip(&mut nodes3) {
+            for (d, out) in black_box(destinations).iter().zip(&mut out3.nodes) {
                 *out = sorted.binary_search_by_key(d, |row| row.0).map_or(0, |at| sorted[at].1);
             }
         },
