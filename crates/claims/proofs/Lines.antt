@@ -30,7 +30,7 @@ use Rattle.octets.proofs.Promises.{put-asks-nothing, get-promise, get-asks-noth
 use Rattle.search.specs.Search.{childEnd, firstBits}
 use Rattle.search.proofs.Words.{search-words}
 use Rattle.search.proofs.SearchLaws.{childEnd-past}
-use Rattle.search.proofs.Ones.{childEnd-count}
+use Rattle.search.proofs.Ones.{childEnd-leading}
 use Rattle.search.proofs.Promises.{child-end-promise, child-end-asks-nothing, child-end-by-bits-promise, child-end-by-bits-asks-nothing, same-child-end, first-bits-promise, first-bits-asks-nothing}
 use Rattle.header.specs.Header.{headerAnswer, place, header, reading}
 use Rattle.header.proofs.Size.{fewest-pairs, size-exactly}
@@ -604,8 +604,8 @@ answers-as-defined = record {
 
 pub the-search : TheSearch
 the-search = record {
-  oneCount = λ a from h l. childEnd-count h refl from l;
-  noneBehind = λ a from h l. childEnd-past from h refl l;
+  byLeadingZeros = λ a from h l. childEnd-leading h refl from l;
+  nothingBehind = λ a from h l. childEnd-past from h refl l;
   sameAnswers = same-child-end;
 }
 

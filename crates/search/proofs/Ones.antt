@@ -1,4 +1,4 @@
--- The ones that the search passes, by one count. With a 0 for its last bit an address ends every search at a 0: what stands behind its first
+-- The ones that the search passes, by a count of leading zeros. With a 0 for its last bit an address ends every search at a 0: what stands behind its first
 -- bits is ones, as many as are passed, and then a 0. Bit by bit that gives two bounds on the remainder which holds these bits, and at the high
 -- end of a word they say how many leading zeros the opposite word has. Assumes nothing.
 use mathlib.Core.Path.{_≡_, refl, sym, ap, _∙_}
@@ -33,13 +33,16 @@ one-first {p} r = record {
   below = omega (arith, r .below, pow-suc 2 p);
 }
 
--- at the high end of a word, with zeros behind, so many leading zeros has the opposite word
+pow-whole : {w : ℕ} (p s : ℕ) → p + s ≡ w → 2 ^ w ≡ 2 ^ p * 2 ^ s
+pow-whole p s e = ap (λ (k : ℕ). 2 ^ k) (sym e) ∙ pow-add 2 p s
+
+-- at the high end of a word, with zeros behind: as many leading zeros has the opposite word
 leading-ones : {p i x : ℕ} (w s : ℕ) → p + suc s ≡ w → OnesFirst p i x → leadingZeros w (2 ^ w - 1 - x * 2 ^ suc s) ≡ i
 leading-ones {p} {i} {x} w s e r =
     let up = 2 ^ suc s in
     let digits = r .left + suc s in
-    let whole : 2 ^ w ≡ 2 ^ p * up = ap (λ (k : ℕ). 2 ^ k) (sym e) ∙ pow-add 2 p (suc s) in
-    let power : 2 ^ digits ≡ 2 ^ r .left * up = pow-add 2 (r .left) (suc s) in
+    let whole = pow-whole p (suc s) e in
+    let power = pow-add 2 (r .left) (suc s) in
     let above = rw add-mul at (mul-le-mul-right up (r .above)) in
     let below = rw (add-mul (x + x) (2 ^ r .left) up, add-mul x x up, add-mul (2 ^ p) (2 ^ p) up) at (mul-lt-mul-of-pos-right (r .below) (pow-pos (suc s))) in
     sym
@@ -93,14 +96,13 @@ module _ {n l : ℕ} (fits : n < 2 ^ longest) (long : l ≡ bitLength n) where
   shifted p s e =
       let up = 2 ^ suc s in
       let twice : n / 2 * 2 * 2 ^ s ≡ n / 2 * up = mul-assoc (n / 2) 2 (2 ^ s) ∙ ap (λ (m : ℕ). n / 2 * m) (sym (pow-succ' 2 s)) in
-      let whole : 2 ^ longest ≡ 2 ^ p * up = ap (λ (k : ℕ). 2 ^ k) (sym e) ∙ pow-add 2 p (suc s) in
-      rw (twice, whole)
+      rw (twice, pow-whole p (suc s) e)
       (mod-mul (n / 2 * up) (pow-pos p) (pow-pos (suc s))
       ∙ rw (mul-div-cancel (n / 2) (pow-pos (suc s)), mul-mod-left (n / 2) up, add-zero))
 
-  pub childEnd-count : (k : ℕ) → k < l
+  pub childEnd-leading : (k : ℕ) → k < l
       → childEnd k (bits n) ≡ k + leadingZeros longest (2 ^ longest - 1 - n / 2 * 2 * 2 ^ (longest - (l - k)) % 2 ^ longest) + 1
-  childEnd-count k h =
+  childEnd-leading k h =
       let p = l - k - 1 in
       let s = longest - (l - k) in
       let e : p + suc s ≡ longest = omega (arith, long, bitLength-le fits) in

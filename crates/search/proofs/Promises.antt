@@ -1,5 +1,5 @@
 -- What the functions of this crate promise, by their contracts as the code states them, is `childEnd` and `firstBits`. None asks anything of
--- its caller, and the two searches, by one count and by a loop over bits, answer the same.
+-- its caller, and the two searches, by leading zeros and by a loop over bits, answer the same.
 use mathlib.Core.Path.{_≡_, sym, _∙_}
 use Prim.Native.Nat.{ℕ}
 use Rattle.address.specs.Bits.{bits}

@@ -4,8 +4,9 @@ ghost use mathlib.Core.Path.{_≡_};
 ghost use Rattle.address.specs.Bits.{bits};
 ghost use Rattle.search.specs.Search.{childEnd, firstBits};
 
-// Where the bits of the next child on the way to an address end, counted from the front, where the first `from` bits are behind: at the
-// first 0, or at the last bit. The ones before it are counted in one operation.
+// Where the bits of the next child on the way to an address end, in bits from the front: the first `from` are the node's, and the child's go
+// on behind them up to the first 0, that one with them, or up to the last bit. Where no bit is behind them, it is `from`.
+// The ones before the child's last bit are counted in one operation.
 pub fn child_end(address: Address, from: u32) -> u32
     ensures { λ r. ⌜ r ≡ childEnd from (bits (address .number)) ⌝ }
 {
@@ -21,8 +22,8 @@ pub fn child_end(address: Address, from: u32) -> u32
     from + ones + 1
 }
 
-// The same by a loop over the bits, as the document says it: "look at D's bits after C one at a time and stop at the first 0 or at D's last
-// bit".
+// The same by a loop over the bits, the form that document 01 names for it: "look at D's bits after C one at a time and stop at the first 0
+// or at D's last bit".
 pub fn child_end_by_bits(address: Address, from: u32) -> u32
     ensures { λ r. ⌜ r ≡ childEnd from (bits (address .number)) ⌝ }
 {

@@ -9,7 +9,7 @@ use lib.Count.{leadingZeros, leading-le}
 use Rattle.address.specs.Bits.{longest}
 use Rattle.address.proofs.Numbers.{bitLength-le}
 use Rattle.search.proofs.SearchLaws.{childEnd-past}
-use Rattle.search.proofs.Ones.{childEnd-count}
+use Rattle.search.proofs.Ones.{childEnd-leading}
 use Rattle.search.proofs.child_end.Statement.{statement}
 use Rattle.search.proofs.child_end.Tie as tie
 
@@ -29,7 +29,7 @@ returns c = sym (childEnd-past _ (omega arith) (c .before .bit-length .ensures) 
 
 returns-2 : tie.Need-returns-2
 returns-2 c =
-    omega (arith, childEnd-count (omega arith) (c .before .before .bit-length .ensures) (c .before .before .before .args .from) (omega arith))
+    omega (arith, childEnd-leading (omega arith) (c .before .before .bit-length .ensures) (c .before .before .before .args .from) (omega arith))
 
 mul-even : tie.Need-mul-even
 mul-even c = search needs
