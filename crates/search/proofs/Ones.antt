@@ -100,13 +100,11 @@ module _ {n l : ℕ} (fits : n < 2 ^ longest) (long : l ≡ bitLength n) where
       (mod-mul (n / 2 * up) (pow-pos p) (pow-pos (suc s))
       ∙ rw (mul-div-cancel (n / 2) (pow-pos (suc s)), mul-mod-left (n / 2) up, add-zero))
 
+  counted : (k p s : ℕ) → p + suc s ≡ longest → Ends k p
+      → childEnd k (bits n) ≡ k + leadingZeros longest (2 ^ longest - 1 - n / 2 * 2 * 2 ^ s % 2 ^ longest) + 1
+  counted k p s e at = rw (at .end, shifted p s e, leading-ones longest s e (at .behind))
+
   pub childEnd-leading : (k : ℕ) → k < l
       → childEnd k (bits n) ≡ k + leadingZeros longest (2 ^ longest - 1 - n / 2 * 2 * 2 ^ (longest - (l - k)) % 2 ^ longest) + 1
   childEnd-leading k h =
-      let p = l - k - 1 in
-      let s = longest - (l - k) in
-      let e : p + suc s ≡ longest = omega (arith, long, bitLength-le fits) in
-      let at = ends p k (omega arith) in
-      let count : leadingZeros longest (2 ^ longest - 1 - n / 2 * 2 * 2 ^ s % 2 ^ longest) ≡ at .ones =
-      rw (shifted p s e) (leading-ones {i = at .ones} longest s e (at .behind)) in
-      omega (arith, at .end, count)
+      counted k (l - k - 1) (longest - (l - k)) (omega (arith, long, bitLength-le fits)) (ends (l - k - 1) k (omega arith))

@@ -5,7 +5,7 @@
 //! version behind a call that is not inlined, as every call of the archive is; `inlined` is the Rust version in the loop itself.
 //!
 //! Run it by `cargo run --release --offline --example bench`. With a name (`longest run`, `mixed`) it goes through these inputs once by each
-//! side and times nothing: examples/bench/count has callgrind count the instructions of that.
+//! side and times nothing: examples/bench/count has callgrind count what that takes.
 mod simple;
 
 use pasa::sys::{self, Child, Hop, Listed, Node, Plan, Read, Written};
