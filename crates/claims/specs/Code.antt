@@ -144,15 +144,15 @@ pub record AnswersAsDefined : Type 0 where
   pub pasaNodeOf : (n : PasaNode) (r : Node) → node-of-reads.Learnt tt (n, tt) r (n, tt) → r ≡ nodeOf n
 
 -- request Two: "Count the run of ones in one operation. Answers and users of the search stay as they are." A contract speaks of answers alone: that
--- `child_end` goes by the count, and that its users are as they were, is seen in the code. These lines say that the count gives the answer,
--- and that it is the one that the loop over bits gave.
+-- `child_end` goes by a count of leading zeros, and that its users are as they were, is seen by comparing the code. These lines say that such a count
+-- gives the answer, and that the loop over bits gives the same.
 pub record TheSearch : Type 0 where
   -- where a bit is behind the first `from` bits of a: set the last bit of a to 0, so that the count stops before it, shift a left until the first bit
-  -- behind them is the word's highest, and make each 0 of the word a 1 and each 1 a 0. Its leading zeros are as many as the ones before the
-  -- child's last bit, which is one bit more, for a host as for a router
+  -- behind them is the word's highest and those before it are dropped, and make each 0 of the word a 1 and each 1 a 0. Its leading zeros are as
+  -- many as the ones before the child's last bit, and that bit is the next, of a host as of a router
   pub byLeadingZeros : (a from : ℕ) → a < 2 ^ 64 → from < bitLength a
       → childEnd from (bits a) ≡ from + leadingZeros 64 (2 ^ 64 - 1 - (a / 2 * 2 * 2 ^ (64 - (bitLength a - from))) % 2 ^ 64) + 1
-  -- where none is, of which the document is silent, nothing is looked at
+  -- where none is, of which document 01 is silent, nothing is looked at
   pub nothingBehind : (a from : ℕ) → a < 2 ^ 64 → bitLength a ≤ from → childEnd from (bits a) ≡ from
   -- `child_end` and `child_end_by_bits`, which looks "at D's bits after C one at a time", answer the same
   pub sameAnswers : (a : Address) (from r s : ℕ) → child-end-reads.Learnt tt (a, (from, tt)) r (a, (from, tt))

@@ -22,8 +22,8 @@ pub fn child_end(address: Address, from: u32) -> u32
     from + ones + 1
 }
 
-// The same by a loop over the bits, the form that document 01 names for it: "look at D's bits after C one at a time and stop at the first 0
-// or at D's last bit".
+// The same by a loop over the bits that yields the position by `break`, the form that document 01 names for this place: "look at D's bits
+// after C one at a time and stop at the first 0 or at D's last bit".
 pub fn child_end_by_bits(address: Address, from: u32) -> u32
     ensures { λ r. ⌜ r ≡ childEnd from (bits (address .number)) ⌝ }
 {
