@@ -1,14 +1,16 @@
 -- The wrong rules for a child are refuted, each through the clause for which document 01 excludes it, at a tree that is computed.
 use Prim.Native.Nat.{ℕ, zero, suc, _+_, _≤_}
-use mathlib.Core.Path.{_≡_, refl, ap, _∙_}
-use mathlib.Core.List.{List, [], _∷_, _++_, List·Memᴰ, List·Memᴰ·head, List·Memᴰ·tail}
+use mathlib.Core.Path.{_≡_, refl, ap, _∙_, subst}
+use mathlib.Core.List.{List, [], _∷_, _++_, append-nil, List·Memᴰ, List·Memᴰ·head, List·Memᴰ·tail}
 use native.Mathlib.Nat.{add-zero}
 use native.Mathlib.Omega.{arith}
 use lib.ListN.{replicate}
+use lib.Dec.{lit<}
 use borrow.Author.Tests.{le-leb}
 use Rattle.address.specs.Bits.{bits, bitsIn, lastBit, digit, number, numberFrom, root}
 use Rattle.address.specs.Steps.{stepBits, lastOf}
 use Rattle.address.specs.Address.{bitLength, isHost, endsInOne}
+use Rattle.address.specs.Numbers.{IsAddress}
 use Rattle.octets.specs.Octets.{octets, value, joined}
 use Rattle.search.specs.Search.{lookedAt, isPrefix, sameBit, kindLooked, indexLooked}
 use Rattle.address.specs.declared.Kind.the-variants.{Router, Host}
@@ -23,6 +25,7 @@ use Rattle.tree.specs.Way.{stoppedWith, fate, deliveredAt, stoppedAt, lo
 use Rattle.tree.specs.Demand3.{Demand3}
 use Rattle.tree.specs.WrongChildren.{sameChild, sharedCount, limitOnParent}
 use Rattle.tree.proofs.Trees.{inTree-recordOf}
+use Rattle.tree.proofs.Forwarding.{packets}
 
 -- ---- what is opened to compute
 
@@ -42,6 +45,10 @@ forHops : Unit {0}
 unfolding forPackets packetHop nextHop rules toward lookedAt isPrefix sameBit kindLooked indexLooked isGood count fate
 forHops = tt
 
+-- a header with nothing behind it
+header-alone : {d : ℕ} → IsAddress d → IsPacket (header d) d
+header-alone {d} n = subst (λ (p : List ℕ). IsPacket p d) (append-nil (header d)) (packets d [] n tt)
+
 -- ---- every child the same address: two routers asked of the root are both 10
 
 pub sameChild-refuted : ((rs : List Request) → Demand3 sameChild packetHop rs) → ⊥
@@ -54,12 +61,7 @@ abbrev routerThenHost : List Request
 routerThenHost = request root Router ∷ request root Host ∷ []
 
 packet-110 : IsPacket (header 0b110) 0b110
-unfolding forPackets
-packet-110 = record {
-  octets = (omega arith, (omega arith, (omega arith, (omega arith, (omega arith, tt)))));
-  place = 5;
-  reads = refl;
-}
+packet-110 = header-alone (record { some = lit< tt; fits = lit< tt })
 
 other-than-110 : List·Memᴰ {A = ℕ} 0b110 (0b1 ∷ 0b10 ∷ 0b111 ∷ []) → ⊥
 other-than-110 (List·Memᴰ·head e) = omega arith
@@ -121,12 +123,7 @@ unfolding forHops
 fate-hosts64 = refl
 
 packet-root : IsPacket (header root) root
-unfolding forPackets
-packet-root = record {
-  octets = (omega arith, (omega arith, (omega arith, (omega arith, (omega arith, tt)))));
-  place = 5;
-  reads = refl;
-}
+packet-root = header-alone (record { some = lit< tt; fits = lit< tt })
 
 pub limitOnParent-refuted : ((rs : List Request) → Demand3 limitOnParent packetHop rs) → ⊥
 limitOnParent-refuted h =
