@@ -33,11 +33,11 @@ use Rattle.search.proofs.SearchLaws.{childEnd-past}
 use Rattle.search.proofs.Ones.{childEnd-leading}
 use Rattle.search.proofs.Promises.{child-end-promise, child-end-asks-nothing, child-end-by-bits-promise, child-end-by-bits-asks-nothing, same-child-end, first-bits-promise, first-bits-asks-nothing}
 use Rattle.header.specs.Header.{headerAnswer, place, header, reading}
-use Rattle.header.proofs.Size.{fewest-pairs, size-exactly}
+use Rattle.header.proofs.Size.{fewest-octets, size-exactly}
 use Rattle.header.proofs.Writing.{length-header}
 use Rattle.header.proofs.Demand2.{header-round-trip}
 use Rattle.header.proofs.RefusalLaws.{header-write-refusals, header-read-refusals}
-use Rattle.header.proofs.WrongWriters.{silent-writer-refuted, refusing-writer-refuted, roomless-writer-refuted, spoiling-writer-refuted}
+use Rattle.header.proofs.WrongWriters.{silent-writer-refuted, refusing-writer-refuted, roomless-writer-refuted, spoiling-writer-refuted, padding-writer-refuted}
 use Rattle.header.proofs.WrongReaders.{surplus-reader-refuted}
 use Rattle.header.proofs.Promises.{one-reading, read-promise as header-read-promise, write-asks-nothing as header-write-asks-nothing, read-asks-nothing as header-read-asks-nothing}
 use Rattle.ipv6.proofs.Demand2.{form-round-trip}
@@ -289,9 +289,9 @@ headers = record {
   acceptsTheWritten = λ p a k are e. header-round-trip .writtenSo p a k are e .2;
   acceptsSo = header-read-refusals .without;
   takes = λ a. (refl, length-header a);
-  allowedSize = λ a h. fewest-pairs a h .allowed;
-  holds = λ a h. fewest-pairs a h .holds;
-  fewest = λ a s h. fewest-pairs a h .fewest s;
+  oneToEight = λ a h. fewest-octets a h .allowed;
+  holds = λ a h. fewest-octets a h .holds;
+  fewest = λ a s h. fewest-octets a h .fewest s;
   sizes = size-exactly;
   mostSignificantFirst = octets-one-to-one .mostFirst;
   octetsHold = λ k n h. octets-one-to-one .held k n h .2;
@@ -529,6 +529,7 @@ wrong-writers-and-readers = record {
   refusing = refusing-writer-refuted;
   withoutRoom = roomless-writer-refuted;
   spoiling = spoiling-writer-refuted;
+  padding = padding-writer-refuted;
   longerForm = surplus-reader-refuted;
   silentForm = silent-form-writer-refuted;
   refusingForm = refusing-form-writer-refuted;

@@ -11,7 +11,7 @@ use Rattle.address.specs.Address.{made, bitLength}
 use Rattle.address.specs.Kinds.{IsHost}
 use Rattle.address.specs.declared.Kind.{Kind}
 use Rattle.octets.specs.Octets.{AreOctets}
-use Rattle.header.specs.Header.{IsSize, header, writing, reading}
+use Rattle.header.specs.Header.{header, writing, reading}
 use Rattle.header.specs.Refusals.{readingOrder}
 use Rattle.ipv6.specs.Form.{form, formWriting, formReading}
 use Rattle.node.specs.Node.{addressIn, fresh, count, childOf}
@@ -74,8 +74,9 @@ pub record ExactlyWhen : Type 0 where
       otherwise done
       ) (writing a buffer .answer .refusal)
   -- "Reading: the first three octets are checked in order; one that is absent is 4, one that is wrong is 5 (of the second only its top three
-  -- bits). Then a size other than 2, 4, 6 or 8 octets is 6. Then a missing address octet is 4. Then, with 2 octets, address zero is 9; with more,
-  -- a first pair of zeros is 6.", where the second octet is 128, 100sssss, and the size less one
+  -- bits)." "Document 01's size rule becomes '1 to 8', refusal 6 means a size above 8 or a first octet of zero where there are several, and 9
+  -- means a single zero octet.", "a missing address octet is 4" between the size and the zeros; the second octet is 128, 100sssss, and the size
+  -- less one
   pub aHeaderBack : (p : List ℕ)
       → GivenExactly (
       4 when length p ≤ 0
@@ -84,10 +85,10 @@ pub record ExactlyWhen : Type 0 where
       otherwise 5 when ((getD p 1 0 < 128) ⊎ (160 ≤ getD p 1 0))
       otherwise 4 when length p ≤ 2
       otherwise 5 when (getD p 2 0 ≡ 15 → ⊥)
-      otherwise 6 when (IsSize (getD p 1 0 - 128 + 1) → ⊥)
+      otherwise 6 when 8 < getD p 1 0 - 128 + 1
       otherwise 4 when length p < 3 + (getD p 1 0 - 128 + 1)
-      otherwise 9 when ((getD p 1 0 - 128 + 1 ≡ 2) × (take 2 (drop 3 p) ≡ replicate 2 0))
-      otherwise 6 when ((2 < getD p 1 0 - 128 + 1) × (take 2 (drop 3 p) ≡ replicate 2 0))
+      otherwise 9 when ((getD p 1 0 - 128 + 1 ≡ 1) × (getD p 3 0 ≡ 0))
+      otherwise 6 when ((1 < getD p 1 0 - 128 + 1) × (getD p 3 0 ≡ 0))
       otherwise done
       ) (reading p .refusal)
   -- "For IPv6 out 12, 9, 10.": "a prefix isn't 8" octets

@@ -9,7 +9,7 @@ use lib.ListN.{length, take, drop}
 use Rattle.address.specs.Numbers.{IsAddress}
 use Rattle.address.specs.Address.{validAddress}
 use Rattle.octets.specs.Octets.{AreOctets, octets, value, same, wrote}
-use Rattle.header.specs.Header.{IsSize, size, sizeAllowed, place, header, writing, reading, found}
+use Rattle.header.specs.Header.{size, sizeAllowed, place, header, writing, reading, found}
 use Rattle.header.specs.Refusals.{AcceptedHeader}
 use Rattle.ipv6.specs.Form.{formWriting, formReading}
 use Rattle.ipv6.specs.Refusals.{AcceptedForm}
@@ -30,13 +30,13 @@ pub record Headers : Type 0 where
   -- "octet 0xF1 ..; octet 100sssss, where sssss is the number of address octets less one ..; octet 15 as the type ..; the address, most
   -- significant octet first; the payload": whatever is accepted is laid out so, and the place is behind the address
   pub acceptsSo : (p : List ℕ) → reading p .refusal ≡ 0 → AcceptedHeader p (reading p .address) (reading p .place)
-  -- "The address takes the fewest pairs of octets that hold it: 2, 4, 6 or 8 octets"
+  -- "Now the address takes the fewest octets, 1 to 8."
   pub takes : (a : ℕ) → (place a ≡ 3 + size a) × (length (header a) ≡ 3 + size a)
-  pub allowedSize : (a : ℕ) → IsAddress a → IsSize (size a)
+  pub oneToEight : (a : ℕ) → IsAddress a → (1 ≤ size a) × (size a ≤ 8)
   pub holds : (a : ℕ) → IsAddress a → a < 256 ^ size a
-  pub fewest : (a s : ℕ) → IsAddress a → IsSize s → a < 256 ^ s → size a ≤ s
+  pub fewest : (a s : ℕ) → IsAddress a → a < 256 ^ s → size a ≤ s
   -- the test for a size is right about every size that the second octet can say
-  pub sizes : (s : ℕ) → 0 < s → (sizeAllowed s ≡ true) ↔ IsSize s
+  pub sizes : (s : ℕ) → 1 ≤ s → (sizeAllowed s ≡ true) ↔ ((1 ≤ s) × (s ≤ 8))
   -- "most significant octet first"
   pub mostSignificantFirst : (o : ℕ) (os : List ℕ) → value (o ∷ os) ≡ o * 256 ^ length os + value os
   -- octets give their number back, and numbers their octets

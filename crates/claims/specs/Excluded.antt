@@ -5,8 +5,8 @@ use Prim.Native.Nat.{ℕ}
 use mathlib.Core.List.{List}
 use lib.ListN.{length}
 use Rattle.header.specs.Header.{writing, reading}
-use Rattle.header.specs.RoundTrip.{HeaderRoundTrip}
-use Rattle.header.specs.WrongWriters.{silentWriter, refusingWriter, roomlessWriter, spoilingWriter}
+use Rattle.header.specs.RoundTrip.{HeaderReader, HeaderRoundTrip}
+use Rattle.header.specs.WrongWriters.{silentWriter, refusingWriter, roomlessWriter, spoilingWriter, paddingWriter}
 use Rattle.header.specs.WrongReaders.{surplusReader}
 use Rattle.ipv6.specs.Form.{formWriting, formReading}
 use Rattle.ipv6.specs.RoundTrip.{FormRoundTrip}
@@ -122,7 +122,8 @@ pub record WrongWritersAndReaders : Type 0 where
   -- one that says done without room; one that spoils what stands behind
   pub withoutRoom : HeaderRoundTrip roomlessWriter reading → ⊥
   pub spoiling : HeaderRoundTrip spoilingWriter reading → ⊥
-  -- a reader that takes a longer form
+  -- "One octet is enough": one that writes two where it is, whatever reads them; a reader that takes two
+  pub padding : (reader : HeaderReader) → HeaderRoundTrip paddingWriter reader → ⊥
   pub longerForm : HeaderRoundTrip writing surplusReader → ⊥
   pub silentForm : FormRoundTrip silentFormWriter formReading → ⊥
   pub refusingForm : FormRoundTrip refusingFormWriter formReading → ⊥

@@ -1,5 +1,5 @@
 -- Demand 2 for the header. A header reads as its address, since its size is allowed, its octets give the number and the fewest octets leave
--- no zeros in front (`reading-header`); and octets that are read were checked octet by octet for what a header has (`header-read`). Assumes
+-- no zero in front (`reading-header`); and octets that are read were checked octet by octet for what a header has (`header-read`). Assumes
 -- nothing.
 use mathlib.Core.Path.{_≡_, refl, sym, ap, ap₂, _∙_, subst}
 use mathlib.Core.Bool.{true}
@@ -7,10 +7,9 @@ use mathlib.Core.List.{List, _∷_, _++_, append-assoc}
 use mathlib.Core.Logic.{inl, inr}
 use Prim.Native.Nat.{ℕ, _+_, _-_, _*_, _/_, _%_, _^_, _≤_, _<_}
 use native.Mathlib.Nat.{lt-of-lt-of-le, one-le-pow, pos-of-ne-zero}
-use native.Mathlib.Decide.{ℕ-discrete}
 use native.Mathlib.Omega.{arith}
-use borrow.Author.Tests.{eq-eqb, ne-eqb, le-ltb, eqb-false}
-use lib.Dec.{lit<, eqb}
+use borrow.Author.Tests.{eq-eqb, le-ltb}
+use lib.Dec.{lit<}
 use lib.ListN.{length, take, drop, getD, length-append, length-drop}
 use lib.Seq.{take-at, take-add, drop-at}
 use Rattle.octets.specs.declared.Written.{Written}
@@ -18,13 +17,12 @@ use Rattle.address.specs.Order.{First}
 use Rattle.address.specs.Bits.{longest}
 use Rattle.address.specs.Numbers.{IsAddress}
 use Rattle.octets.specs.Octets.{octets, value, AreOctets, WriteEffect, write, wrote}
-use Rattle.address.proofs.ChoiceLaws.{if-zero}
-use Rattle.octets.proofs.OctetLaws.{length-octets, value-octets-of-lt, octets-octets, octets-value, value-lt, value-fits, value-lt-of-zeros, value-ge-of-zeros}
-use Rattle.header.specs.Header.{header, place, size, unit, fixedOctets, pageOctet, criticalPattern, routingType, sizeAllowed, writing, reading, found, startFault, inOrder, sizeTold, addressFault, zeroFault, addressOctets}
+use Rattle.octets.proofs.OctetLaws.{length-octets, value-octets-of-lt, octets-octets, octets-value, value-lt, value-fits}
+use Rattle.header.specs.Header.{header, place, size, fixedOctets, pageOctet, criticalPattern, routingType, sizeAllowed, writing, reading, found, startFault, inOrder, sizeTold, addressFault, zeroFault, addressOctets}
 use Rattle.header.specs.RoundTrip.{HeaderRoundTrip}
-use Rattle.header.proofs.Size.{size-le, size-ge, size-allowed, size-exact, size-least, sizeAllowed-le, sizeAllowed-ge, fewest-pairs}
+use Rattle.header.proofs.Size.{size-le, size-ge, size-exact, size-least, sizeAllowed-le, le-sizeAllowed, fewest-octets}
 use Rattle.header.proofs.Start.{startFault-zero}
-use Rattle.header.proofs.Parts.{length-addressOctets, octets-addressOctets, addressFault-zero}
+use Rattle.header.proofs.Parts.{length-addressOctets, octets-addressOctets, first-addressOctets, lt-of-first, ge-of-first, zeroFault-some, zeroFault-zero, addressFault-zero}
 use Rattle.header.proofs.Cases.{reading-found, reading-inverse}
 use Rattle.header.specs.Refusals.{writingOrder}
 use Rattle.header.proofs.RefusalLaws.{header-write-refusals}
@@ -35,30 +33,6 @@ use Rattle.header.proofs.Writing.{length-header, writing-done}
 pub octets-header : {d : ℕ} → IsAddress d → AreOctets (header d)
 unfolding header
 octets-header {d} n = (lit< tt, (omega (arith, size-ge n, size-le (n .fits)), (lit< tt, octets-octets (size d) d)))
-
--- s octets of which the first unit is not zero have no fault, and the other way round
-zeroFault-none : (s : ℕ) (os : List ℕ) → length os ≡ s → unit ≤ s → AreOctets os → 256 ^ (s - unit) ≤ value os → zeroFault s os ≡ 0
-unfolding zeroFault
-zeroFault-none s os e h all l = go (ℕ-discrete s unit)
-  where
-    go : Dec (s ≡ unit) → zeroFault s os ≡ 0
-    go (yes q) =
-        let some : value os ≡ 0 → ⊥ = λ z. omega (arith, ap (λ (k : ℕ). 256 ^ (k - unit)) q) in simp (eq-eqb s unit q, ne-eqb (value os) 0 some)
-    go (no q) =
-        let some : value (take unit os) ≡ 0 → ⊥ = λ z. omega (arith, value-lt-of-zeros unit os all z, ap (λ (k : ℕ). 256 ^ (k - unit)) e) in
-        simp (ne-eqb s unit q, ne-eqb (value (take unit os)) 0 some)
-
-zeroFault-zero : (s : ℕ) (os : List ℕ) → length os ≡ s → unit ≤ s → AreOctets os → zeroFault s os ≡ 0 → 256 ^ (s - unit) ≤ value os
-unfolding zeroFault
-zeroFault-zero s os e h all z = go (ℕ-discrete s unit)
-  where
-    go : Dec (s ≡ unit) → 256 ^ (s - unit) ≤ value os
-    go (yes q) =
-        let t = if-zero (eqb (value os) 0) 8 0 (simp (eq-eqb s unit q) at z) in
-        omega (arith, ap (λ (k : ℕ). 256 ^ (k - unit)) q, pos-of-ne-zero (eqb-false (value os) 0 (t .0)))
-    go (no q) =
-        let t = if-zero (eqb (value (take unit os)) 0) 5 0 (simp (ne-eqb s unit q) at z) in
-        omega (arith, value-ge-of-zeros unit os all (eqb-false (value (take unit os)) 0 (t .0)), ap (λ (k : ℕ). 256 ^ (k - unit)) e)
 
 module _ {a : ℕ} (n : IsAddress a) (rest : List ℕ) where
   second : (o : ℕ) → o ≡ criticalPattern * 32 + (size a - 1) → (o / 32 ≡ criticalPattern) × (o % 32 + 1 ≡ size a)
@@ -76,14 +50,23 @@ module _ {a : ℕ} (n : IsAddress a) (rest : List ℕ) where
   unfolding addressOctets header
   header-octets = take-at (octets (size a) a) rest (size a) (length-octets (size a) a)
 
+  header-number : value (octets (size a) a) ≡ a
+  header-number = value-octets-of-lt (size a) a (fewest-octets a n .holds)
+
+  header-first : getD (header a ++ rest) fixedOctets 0 ≡ 0 → ⊥
+  header-first e =
+      let os = octets (size a) a in
+      let first : getD os 0 0 ≡ getD (header a ++ rest) fixedOctets 0 =
+      ap (λ (l : List ℕ). getD l 0 0) (sym header-octets) ∙ first-addressOctets (size a) (header a ++ rest) (size-ge n) in
+      let fewer = lt-of-first os (octets-octets (size a) a) (first ∙ e) in
+      omega (arith, size-least n, header-number, ap (λ (k : ℕ). 256 ^ (k - 1)) (length-octets (size a) a))
+
   header-fault : addressFault (size a) (header a ++ rest) ≡ 0
   unfolding addressFault place
   header-fault =
       let long : fixedOctets + size a ≤ length (header a ++ rest) = omega (arith, length-append (header a) rest, length-header a) in
-      let os = octets (size a) a in
-      let number : value os ≡ a = value-octets-of-lt (size a) a (fewest-pairs a n .holds) in
-      simp (size-allowed (n .fits), le-ltb (length (header a ++ rest)) (fixedOctets + size a) long, header-octets)
-      (zeroFault-none (size a) os (length-octets (size a) a) (size-ge n) (octets-octets (size a) a) (omega (arith, size-least n, number)))
+      rw (le-sizeAllowed (size-le (n .fits)), le-ltb (length (header a ++ rest)) (fixedOctets + size a) long)
+      (zeroFault-some (size a) (getD (header a ++ rest) fixedOctets 0) header-first)
 
   pub reading-header : reading (header a ++ rest) ≡ found a (place a)
   unfolding place
@@ -92,7 +75,7 @@ module _ {a : ℕ} (n : IsAddress a) (rest : List ℕ) where
       reading-found p header-start (ap (λ (s : ℕ). addressFault s p) header-size ∙ header-fault)
       ∙ ap (λ (s : ℕ). found (value (addressOctets s p)) (fixedOctets + s)) header-size
       ∙ ap (λ (os : List ℕ). found (value os) (fixedOctets + size a)) header-octets
-      ∙ ap (λ (v : ℕ). found v (fixedOctets + size a)) (value-octets-of-lt (size a) a (fewest-pairs a n .holds))
+      ∙ ap (λ (v : ℕ). found v (fixedOctets + size a)) header-number
 
 -- ---- what is read is what would have been written
 
@@ -104,33 +87,36 @@ module _ (p : List ℕ) (all : AreOctets p) (begun : startFault p ≡ 0) (whole 
   unfolding s
   os = addressOctets s p
 
-  right : (sizeAllowed s ≡ true) × (fixedOctets + s ≤ length p) × (zeroFault s os ≡ 0)
-  unfolding s os
+  right : (sizeAllowed s ≡ true) × (fixedOctets + s ≤ length p) × (zeroFault s (getD p fixedOctets 0) ≡ 0)
+  unfolding s
   right = addressFault-zero s p whole
 
   many : length os ≡ s
   unfolding s os
   many = length-addressOctets s p (right .1)
 
-  some : unit ≤ s
+  some : 1 ≤ s
   unfolding s sizeTold
-  some = sizeAllowed-ge (right .0) (omega arith)
+  some = omega arith
 
   are : AreOctets os
   unfolding os s
   are = octets-addressOctets s p all
 
-  least : 256 ^ (s - unit) ≤ value os
-  least = zeroFault-zero s os many some are (right .2)
+  least : 256 ^ (s - 1) ≤ value os
+  unfolding os
+  least =
+      let first = zeroFault-zero s (getD p fixedOctets 0) (right .2) in
+      subst (λ (k : ℕ). 256 ^ (k - 1) ≤ value os) many (ge-of-first os are (λ e. first (sym (first-addressOctets s p some) ∙ e)))
 
   address-read : IsAddress (value os)
   address-read = record {
-    some = lt-of-lt-of-le (one-le-pow (s - unit) 256 (lit< tt)) least;
+    some = lt-of-lt-of-le (one-le-pow (s - 1) 256 (lit< tt)) least;
     fits = value-fits os are (omega (arith, many, sizeAllowed-le (right .0)));
   }
 
   size-read : size (value os) ≡ s
-  size-read = size-exact address-read (right .0) (omega (arith, value-lt os are, ap (λ (k : ℕ). 256 ^ k) many)) some least
+  size-read = size-exact address-read (omega (arith, value-lt os are, ap (λ (k : ℕ). 256 ^ k) many)) some least
 
   take-read : take (fixedOctets + s) p ≡ header (value os)
   unfolding header os s addressOctets

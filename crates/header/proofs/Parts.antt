@@ -1,18 +1,22 @@
--- The part of a packet that holds the address: as the code cuts it, how long it is, and what follows where it has no fault. Assumes nothing.
-use mathlib.Core.Path.{_≡_, refl, sym, ap, _∙_, subst}
-use mathlib.Core.Bool.{true, false, not}
-use mathlib.Core.List.{List}
+-- The part of a packet that holds the address: as the code cuts it, how long it is, its first octet, and what follows where it has no fault.
+-- Assumes nothing.
+use mathlib.Core.Path.{_≡_, refl, sym, ap, _∙_}
+use mathlib.Core.Bool.{true, not}
+use mathlib.Core.List.{List, [], _∷_}
 use Prim.Native.Nat.{ℕ, _+_, _-_, _^_, _≤_, _<_}
+use native.Mathlib.Decide.{ℕ-discrete}
 use native.Mathlib.Omega.{arith}
 use native.Mathlib.Nat.{add-sub-cancel-left}
-use borrow.Author.Tests.{not-false, ltb-false}
+use borrow.Author.Tests.{eq-eqb, ne-eqb, lt-leb, lt-ltb, le-ltb, not-false, ltb-false}
 use lib.Dec.{ltb}
-use lib.ListN.{length, take, drop, length-take, length-drop}
+use lib.ListN.{length, take, drop, getD, length-take, length-drop}
+use lib.Seq.{getD-take, getD-drop}
 use Rattle.address.specs.Choice.{if_then_else_}
-use Rattle.octets.specs.Octets.{AreOctets}
+use Rattle.octets.specs.Octets.{AreOctets, value, joined}
 use Rattle.address.proofs.ChoiceLaws.{if-zero}
-use Rattle.octets.proofs.OctetLaws.{take-octets, drop-octets}
-use Rattle.header.specs.Header.{addressOctets, addressFault, zeroFault, sizeAllowed, fixedOctets}
+use Rattle.octets.proofs.OctetLaws.{take-octets, drop-octets, value-lt-of-zeros, value-ge-of-zeros}
+use Rattle.header.specs.Header.{addressOctets, addressFault, zeroFault, sizeAllowed, mostOctets, fixedOctets}
+use Rattle.header.proofs.Size.{le-sizeAllowed}
 
 pub length-addressOctets : (s : ℕ) (p : List ℕ) → fixedOctets + s ≤ length p → length (addressOctets s p) ≡ s
 unfolding addressOctets
@@ -26,9 +30,64 @@ pub octets-addressOctets : (s : ℕ) (p : List ℕ) → AreOctets p → AreOctet
 unfolding addressOctets
 octets-addressOctets s p all = take-octets s (drop fixedOctets p) (drop-octets fixedOctets p all)
 
--- no fault: the size is allowed, the octets are there, and they are no zeros
+-- ---- the first octet
+
+pub first-addressOctets : (s : ℕ) (p : List ℕ) → 1 ≤ s → getD (addressOctets s p) 0 0 ≡ getD p fixedOctets 0
+unfolding addressOctets
+first-addressOctets s p h = getD-take s (drop fixedOctets p) 0 0 h ∙ getD-drop fixedOctets p 0 0
+
+first-alone : (os : List ℕ) → value (take 1 os) ≡ getD os 0 0
+unfolding value joined
+first-alone [] = refl
+first-alone (o ∷ os) = omega arith
+
+-- it is zero exactly if the others hold the whole number
+module _ (os : List ℕ) (all : AreOctets os) where
+  pub lt-of-first : getD os 0 0 ≡ 0 → value os < 256 ^ (length os - 1)
+  lt-of-first e = value-lt-of-zeros 1 os all (first-alone os ∙ e)
+
+  pub ge-of-first : (getD os 0 0 ≡ 0 → ⊥) → 256 ^ (length os - 1) ≤ value os
+  ge-of-first h = value-ge-of-zeros 1 os all (λ e. h (sym (first-alone os) ∙ e))
+
+-- what it says of an address in s octets
+module _ (s first : ℕ) where
+  pub zeroFault-some : (first ≡ 0 → ⊥) → zeroFault s first ≡ 0
+  unfolding zeroFault
+  zeroFault-some h = rw (ne-eqb first 0 h)
+
+  pub zeroFault-single : first ≡ 0 → s ≡ 1 → zeroFault s first ≡ 9
+  unfolding zeroFault
+  zeroFault-single z e = rw (eq-eqb first 0 z, eq-eqb s 1 e)
+
+  pub zeroFault-several : first ≡ 0 → (s ≡ 1 → ⊥) → zeroFault s first ≡ 6
+  unfolding zeroFault
+  zeroFault-several z n = rw (eq-eqb first 0 z, ne-eqb s 1 n)
+
+  pub zeroFault-zero : zeroFault s first ≡ 0 → first ≡ 0 → ⊥
+  zeroFault-zero e z = go (ℕ-discrete s 1)
+    where
+      go : Dec (s ≡ 1) → ⊥
+      go (yes one) = omega (arith, zeroFault-single z one)
+      go (no more) = omega (arith, zeroFault-several z more)
+
+-- ---- what follows the first three octets
+
+module _ (s : ℕ) (p : List ℕ) where
+  pub addressFault-size : mostOctets < s → addressFault s p ≡ 6
+  unfolding addressFault sizeAllowed
+  addressFault-size h = rw (lt-leb s mostOctets h)
+
+  pub addressFault-short : s ≤ mostOctets → length p < fixedOctets + s → addressFault s p ≡ 4
+  unfolding addressFault
+  addressFault-short h l = rw (le-sizeAllowed h, lt-ltb (length p) (fixedOctets + s) l)
+
+  pub addressFault-long : s ≤ mostOctets → fixedOctets + s ≤ length p → addressFault s p ≡ zeroFault s (getD p fixedOctets 0)
+  unfolding addressFault
+  addressFault-long h l = rw (le-sizeAllowed h, le-ltb (length p) (fixedOctets + s) l)
+
+-- no fault: the size is allowed, the octets are there, and the first of them has none
 pub addressFault-zero : (s : ℕ) (p : List ℕ) → addressFault s p ≡ 0
-    → (sizeAllowed s ≡ true) × (fixedOctets + s ≤ length p) × (zeroFault s (addressOctets s p) ≡ 0)
+    → (sizeAllowed s ≡ true) × (fixedOctets + s ≤ length p) × (zeroFault s (getD p fixedOctets 0) ≡ 0)
 unfolding addressFault
 addressFault-zero s p e =
     let first = if-zero (not (sizeAllowed s)) 5 _ e in

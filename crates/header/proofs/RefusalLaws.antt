@@ -2,27 +2,25 @@
 -- passed on the way, gives that condition's number. Assumes nothing.
 use mathlib.Core.Path.{_≡_, refl, sym, ap, ap₂, subst, _∙_}
 use mathlib.Core.Bool.{Bool, true, false}
-use mathlib.Core.Logic.{_⊎_, inl, inr, _↔_, Dec·and, Dec·not}
+use mathlib.Core.Logic.{_⊎_, inl, inr, Dec·and, Dec·not}
 use mathlib.Core.List.{List, [], _∷_, _++_}
 use Prim.Native.Nat.{ℕ, zero, suc, _+_, _-_, _/_, _%_, _≤_, _<_}
-use native.Mathlib.Decide.{ℕ-discrete, decLe, decLt, map-dec}
+use native.Mathlib.Decide.{ℕ-discrete, decLe, decLt}
 use native.Mathlib.Omega.{arith}
-use borrow.Author.Tests.{eq-eqb, ne-eqb, lt-ltb, le-ltb}
+use borrow.Author.Tests.{eq-eqb, ne-eqb}
 use lib.Dec.{eqb, ltb}
-use lib.ListN.{length, take, drop, getD, replicate, take-append-drop, length-drop}
-use lib.Seq.{take-take, take-all, length-take-le}
+use lib.ListN.{length, drop, getD, take-append-drop}
 use Rattle.address.specs.Choice.{if_then_else_}
 use Rattle.address.specs.Order.{First}
 use Rattle.address.proofs.OrderLaws.{given-exactly}
-use Rattle.octets.specs.Octets.{value, refuseWriting, write}
-use Rattle.octets.proofs.Correspondence.{value-zero, value-zeros}
+use Rattle.octets.specs.Octets.{refuseWriting, write}
 use Rattle.address.proofs.Decided.{decided, one-of, holds}
 use Rattle.octets.proofs.LentLaws.{refusal-refuseWriting, refusal-write, Outcome, outcome-leaves, outcome-writes}
-use Rattle.header.specs.Header.{unit, IsSize, sizeAllowed, size, header, place, writing, HeaderAnswer, reading, refusedHeader, found, fixedOctets, pageOctet, criticalPattern, routingType, inOrder, startFault, isPageOctet, hasCriticalPattern, isRoutingType, sizeTold, addressOctets, zeroFault, addressFault}
-use Rattle.header.specs.Refusals.{writingOrder, HeaderWriteRefusals, octetAt, OtherTopBits, sizeSaid, FirstZeros, sizedOrder, readingOrder, AcceptedHeader, HeaderReadRefusals}
-use Rattle.header.proofs.Size.{sizeAllowed-true, size-sizeAllowed, sizeAllowed-ge}
+use Rattle.header.specs.Header.{mostOctets, header, place, writing, HeaderAnswer, reading, refusedHeader, found, fixedOctets, pageOctet, criticalPattern, routingType, inOrder, startFault, isPageOctet, hasCriticalPattern, isRoutingType, sizeTold, addressOctets, addressFault}
+use Rattle.header.specs.Refusals.{writingOrder, HeaderWriteRefusals, octetAt, OtherTopBits, sizeSaid, sizedOrder, readingOrder, AcceptedHeader, HeaderReadRefusals}
+use Rattle.header.proofs.Size.{sizeAllowed-le}
 use Rattle.header.proofs.Start.{inOrder-absent, inOrder-wrong, inOrder-right, startFault-page, startFault-critical, startFault-zero}
-use Rattle.header.proofs.Parts.{length-addressOctets, addressFault-zero}
+use Rattle.header.proofs.Parts.{length-addressOctets, zeroFault-some, zeroFault-single, zeroFault-several, addressFault-size, addressFault-short, addressFault-long, addressFault-zero}
 use Rattle.header.proofs.Cases.{reading-start, reading-address, reading-found, reading-cases, reading-inverse}
 use Rattle.header.proofs.Writing.{length-header, writing-zero, writing-short, writing-done}
 
@@ -54,47 +52,6 @@ header-write-refusals = record {
 
 -- ---- reading
 
--- the first octets that an address of s octets has
-pub zeros-first : (s : ℕ) (p : List ℕ) → unit ≤ s → fixedOctets + s ≤ length p → (value (take unit (addressOctets s p)) ≡ 0) ↔ FirstZeros p
-unfolding addressOctets
-zeros-first s p h room =
-    let rest = drop fixedOctets p in
-    let first : take unit (take s rest) ≡ take unit rest = take-take unit s rest h in
-    let many : length (take unit rest) ≡ unit = length-take-le unit rest (omega (arith, length-drop fixedOctets p)) in (
-      λ e. value-zero (take unit rest) (ap value (sym first) ∙ e) ∙ ap (λ (k : ℕ). replicate k 0) many,
-      λ e. ap value (first ∙ e) ∙ value-zeros unit,
-    )
-
-module _ (s : ℕ) (p : List ℕ) where
-  addressFault-size : sizeAllowed s ≡ false → addressFault s p ≡ 6
-  unfolding addressFault
-  addressFault-size e = rw e
-
-  addressFault-short : sizeAllowed s ≡ true → length p < fixedOctets + s → addressFault s p ≡ 4
-  unfolding addressFault
-  addressFault-short e h = rw (e, lt-ltb (length p) (fixedOctets + s) h)
-
-  addressFault-long : sizeAllowed s ≡ true → fixedOctets + s ≤ length p → addressFault s p ≡ zeroFault s (addressOctets s p)
-  unfolding addressFault
-  addressFault-long e h = rw (e, le-ltb (length p) (fixedOctets + s) h)
-
-module _ (s : ℕ) (os : List ℕ) where
-  zeroFault-unit : s ≡ unit → value os ≡ 0 → zeroFault s os ≡ 9
-  unfolding zeroFault
-  zeroFault-unit e z = rw (eq-eqb s unit e, eq-eqb (value os) 0 z)
-
-  zeroFault-more : (s ≡ unit → ⊥) → value (take unit os) ≡ 0 → zeroFault s os ≡ 6
-  unfolding zeroFault
-  zeroFault-more n z = rw (ne-eqb s unit n, eq-eqb (value (take unit os)) 0 z)
-
-  zeroFault-right : (s ≡ unit → value os ≡ 0 → ⊥) → ((s ≡ unit → ⊥) → value (take unit os) ≡ 0 → ⊥) → zeroFault s os ≡ 0
-  unfolding zeroFault
-  zeroFault-right one more = go (ℕ-discrete s unit)
-    where
-      go : Dec (s ≡ unit) → zeroFault s os ≡ 0
-      go (yes e) = rw (eq-eqb s unit e, ne-eqb (value os) 0 (one e))
-      go (no n) = rw (ne-eqb s unit n, ne-eqb (value (take unit os)) 0 (more n))
-
 other-wrong : (o : ℕ) → OtherTopBits o → o / 32 ≡ criticalPattern → ⊥
 other-wrong o (inl h) e = omega arith
 other-wrong o (inr h) e = omega arith
@@ -107,39 +64,16 @@ top-right p n =
     let above : 0b10100000 ≤ octetAt 1 p → ⊥ = λ h. n (inr h) in
     (omega arith, omega arith)
 
-isSize : (s : ℕ) → 0 < s → Dec (IsSize s)
-isSize s some = go (sizeAllowed s) refl
-  where
-    go : (t : Bool) → sizeAllowed s ≡ t → Dec (IsSize s)
-    go true e = yes (sizeAllowed-true e some)
-    go false e = no (λ h. let z : true ≡ false = sym (size-sizeAllowed h) ∙ e in let y : _≡_ {A = ℕ} 0 1 = cc in omega arith)
-
-sizeAllowed-false : {s : ℕ} → 0 < s → (IsSize s → ⊥) → sizeAllowed s ≡ false
-sizeAllowed-false {s} some other = go (sizeAllowed s) refl
-  where
-    go : (t : Bool) → sizeAllowed s ≡ t → t ≡ false
-    go true e = absurd (other (sizeAllowed-true e some))
-    go false e = refl
-
 first-sized : (s : ℕ) (p : List ℕ) → 0 < s → First (sizedOrder s p) (addressFault s p)
 first-sized s p some =
-    decided (Dec·not (isSize s some)) (λ other. addressFault-size s p (sizeAllowed-false some other)) λ size.
-    let allowed = size-sizeAllowed (holds (isSize s some) size) in
-    let h : unit ≤ s = sizeAllowed-ge allowed some in
+    decided (decLt 8 s) (λ large. addressFault-size s p large) λ small.
+    let allowed : s ≤ mostOctets = omega arith in
     decided (decLt (length p) (fixedOctets + s)) (λ short. addressFault-short s p allowed short) λ long.
-    let room : fixedOctets + s ≤ length p = omega arith in
-    let os = addressOctets s p in
-    let fault = addressFault-long s p allowed room in
-    let first = zeros-first s p h room in
-    let whole : s ≡ unit → value os ≡ value (take unit os) =
-    λ e. ap value (sym (take-all unit os (omega (arith, length-addressOctets s p room)))) in
-    let zeros : Dec (FirstZeros p) = map-dec (first .0) (first .1) (ℕ-discrete (value (take unit os)) 0) in
-    decided (Dec·and (ℕ-discrete s unit) zeros) (λ c. fault ∙ zeroFault-unit s os (c .0) (whole (c .0) ∙ first .1 (c .1))) λ one.
-    decided (Dec·and (decLt unit s) zeros) (λ c. fault ∙ zeroFault-more s os (λ e. omega (arith, c .0)) (first .1 (c .1))) λ more.
-    fault
-    ∙ zeroFault-right s os
-    (λ e z. one (e, first .0 (sym (whole e) ∙ z)))
-    (λ ne z. more (omega arith, first .0 z))
+    let fault = addressFault-long s p allowed (omega arith) in
+    let zero = ℕ-discrete (octetAt 3 p) 0 in
+    decided (Dec·and (ℕ-discrete s 1) zero) (λ c. fault ∙ zeroFault-single s (octetAt 3 p) (c .1) (c .0)) λ single.
+    decided (Dec·and (decLt 1 s) zero) (λ c. fault ∙ zeroFault-several s (octetAt 3 p) (c .1) (λ e. omega (arith, c .0))) λ several.
+    fault ∙ zeroFault-some s (octetAt 3 p) (λ z. let more : s ≡ 1 → ⊥ = λ e. single (e, z) in several (omega arith, z))
 
 module _ (p : List ℕ) where
   by-start : {n : ℕ} → startFault p ≡ suc n → reading p .refusal ≡ suc n
@@ -194,7 +128,7 @@ accepted p e =
       os = os;
       payload = drop s (drop fixedOctets p);
       laid = q ∙ ap₂ (λ (x : ℕ) (l : List ℕ). 0xF1 ∷ x ∷ 15 ∷ l) second behind;
-      sized = rw many (sizeAllowed-true (right .0) (omega arith));
+      sized = (omega arith, omega (arith, sizeAllowed-le (right .0)));
       number = sym number;
       behind = sym end ∙ ap (λ (k : ℕ). fixedOctets + k) (sym many);
     }

@@ -1,5 +1,5 @@
--- A reader that takes surplus octets is refuted by demand 2 at the header of 62 with a pair of zeros more, which is not the one that is
--- written. Assumes nothing.
+-- A reader that takes a surplus octet is refuted by demand 2 at the header of 62 with a zero more, which is not the one that is written.
+-- Assumes nothing.
 use mathlib.Core.Path.{refl, ap}
 use mathlib.Core.List.{List, [], _∷_}
 use Prim.Native.Nat.{ℕ}
@@ -15,11 +15,11 @@ use Rattle.header.specs.RoundTrip.{HeaderRoundTrip}
 use Rattle.header.specs.WrongReaders.{surplusReader}
 
 longer : List ℕ
-longer = 0xF1 ∷ 0x83 ∷ 0x0F ∷ 0 ∷ 0 ∷ 0 ∷ 0x3E ∷ []
+longer = 0xF1 ∷ 0x81 ∷ 0x0F ∷ 0 ∷ 0x3E ∷ []
 
 pub surplus-reader-refuted : HeaderRoundTrip writing surplusReader → ⊥
 unfolding longer surplusReader startFault inOrder sizeTold addressOctets value joined writing write header octets place size bitLength bits bitsIn
 surplus-reader-refuted claim =
-    let all : AreOctets longer = (lit< tt, (lit< tt, (lit< tt, (lit< tt, (lit< tt, (lit< tt, (lit< tt, tt))))))) in
-    let written = claim .writtenSo longer 62 7 all refl .2 (replicate 7 0) (lit≤ tt) .0 in
+    let all : AreOctets longer = (lit< tt, (lit< tt, (lit< tt, (lit< tt, (lit< tt, tt))))) in
+    let written = claim .writtenSo longer 62 5 all refl .2 (replicate 5 0) (lit≤ tt) .0 in
     omega (arith, ap (λ (w : Written). w .count) written)

@@ -1,5 +1,5 @@
--- Each wrong writer is refuted by demand 2 at the address 1: one that writes nothing or refuses in a buffer that has room, one that says done
--- without room in the empty buffer, and one that spoils in a buffer with one octet more than the header. Assumes nothing.
+-- Each wrong writer is refuted by demand 2 at the address 1: one that writes nothing, refuses or pads in a buffer that has room, one that says
+-- done without room in the empty buffer, and one that spoils in a buffer with one octet more than the header. Assumes nothing.
 use mathlib.Core.Path.{refl, ap}
 use mathlib.Core.List.{List, []}
 use Prim.Native.Nat.{ℕ}
@@ -12,25 +12,30 @@ use Rattle.address.specs.Address.{bitLength}
 use Rattle.address.specs.Numbers.{IsAddress}
 use Rattle.octets.specs.Octets.{octets, refuseWriting, write}
 use Rattle.header.specs.Header.{header, place, size, writing, reading, HeaderAnswer, startFault, inOrder}
-use Rattle.header.specs.RoundTrip.{HeaderRoundTrip}
-use Rattle.header.specs.WrongWriters.{silentWriter, refusingWriter, roomlessWriter, spoilingWriter}
+use Rattle.header.specs.RoundTrip.{HeaderReader, HeaderRoundTrip}
+use Rattle.header.specs.WrongWriters.{silentWriter, refusingWriter, roomlessWriter, spoilingWriter, paddingWriter}
 
 one : IsAddress 1
 one = record { some = lit< tt; fits = lit< tt }
 
 pub silent-writer-refuted : HeaderRoundTrip silentWriter reading → ⊥
 unfolding silentWriter reading startFault inOrder place size bitLength bits bitsIn
-silent-writer-refuted claim = omega (arith, ap (λ (x : HeaderAnswer). x .refusal) (claim .readsBack 1 (replicate 5 0) one (lit≤ tt) .1))
+silent-writer-refuted claim = omega (arith, ap (λ (x : HeaderAnswer). x .refusal) (claim .readsBack 1 (replicate 4 0) one (lit≤ tt) .1))
 
 pub refusing-writer-refuted : HeaderRoundTrip refusingWriter reading → ⊥
 unfolding refusingWriter refuseWriting place size bitLength bits bitsIn
-refusing-writer-refuted claim = omega (arith, ap (λ (w : Written). w .refusal) (claim .readsBack 1 (replicate 5 0) one (lit≤ tt) .0))
+refusing-writer-refuted claim = omega (arith, ap (λ (w : Written). w .refusal) (claim .readsBack 1 (replicate 4 0) one (lit≤ tt) .0))
 
 pub roomless-writer-refuted : HeaderRoundTrip roomlessWriter reading → ⊥
 unfolding roomlessWriter write reading startFault inOrder place size bitLength bits bitsIn
-roomless-writer-refuted claim = omega (arith, ap (λ (x : HeaderAnswer). x .refusal) (claim .whereDone 1 [] [] 5 (one .fits) refl .0))
+roomless-writer-refuted claim = omega (arith, ap (λ (x : HeaderAnswer). x .refusal) (claim .whereDone 1 [] [] 4 (one .fits) refl .0))
 
 pub spoiling-writer-refuted : HeaderRoundTrip spoilingWriter reading → ⊥
 unfolding spoilingWriter writing write header octets place size bitLength bits bitsIn
 spoiling-writer-refuted claim =
-    omega (arith, ap (λ (l : List ℕ). getD l 0 0) (claim .whereDone 1 (replicate 6 0) [] 5 (one .fits) refl .1))
+    omega (arith, ap (λ (l : List ℕ). getD l 0 0) (claim .whereDone 1 (replicate 5 0) [] 4 (one .fits) refl .1))
+
+-- whatever reads what it writes
+pub padding-writer-refuted : (reader : HeaderReader) → HeaderRoundTrip paddingWriter reader → ⊥
+unfolding paddingWriter write place size bitLength bits bitsIn
+padding-writer-refuted reader claim = omega (arith, ap (λ (w : Written). w .count) (claim .readsBack 1 (replicate 5 0) one (lit≤ tt) .0))

@@ -1,4 +1,4 @@
--- "The address takes the fewest pairs of octets that hold it: 2, 4, 6 or 8 octets".
+-- "Now the address takes the fewest octets, 1 to 8."
 use Prim.Native.Nat.{ℕ, _^_, _<_, _≤_}
 use mathlib.Core.Path.{_≡_}
 use mathlib.Core.Bool.{true}
@@ -9,11 +9,11 @@ use Rattle.header.specs.Header.{size, IsSize, sizeAllowed}
 pub record IsFewest (a : ℕ) : Type 0 where
   pub allowed : IsSize (size a)
   pub holds : a < 256 ^ size a
-  pub fewest : (s : ℕ) → IsSize s → a < 256 ^ s → size a ≤ s
+  pub fewest : (s : ℕ) → a < 256 ^ s → size a ≤ s
 
-abbrev pub FewestPairs : Type 0
-FewestPairs = (a : ℕ) → IsAddress a → IsFewest a
+abbrev pub FewestOctets : Type 0
+FewestOctets = (a : ℕ) → IsAddress a → IsFewest a
 
 -- the test is right about every size that an octet can tell
 abbrev pub SizeExactly : Type 0
-SizeExactly = (s : ℕ) → 0 < s → (sizeAllowed s ≡ true) ↔ IsSize s
+SizeExactly = (s : ℕ) → 1 ≤ s → (sizeAllowed s ≡ true) ↔ IsSize s

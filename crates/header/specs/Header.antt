@@ -1,11 +1,9 @@
 -- The packet header. "Packet: octet 0xF1 (page 1, RFC 8025); octet 100sssss, where sssss is the number of address octets less one (house
 -- choice); octet 15 as the type (house choice until a number is assigned); the address, most significant octet first; the payload, which
 -- may be empty."
-use Prim.Native.Nat.{ℕ, _+_, _*_, _-_, _/_, _%_}
-use mathlib.Core.Path.{_≡_}
-use mathlib.Core.Logic.{_⊎_}
-use mathlib.Core.Bool.{Bool, true, false, not, _&&_}
-use mathlib.Core.List.{List, [], _∷_, _++_}
+use Prim.Native.Nat.{ℕ, _+_, _*_, _-_, _/_, _%_, _≤_}
+use mathlib.Core.Bool.{Bool, not}
+use mathlib.Core.List.{List, [], _∷_}
 use lib.ListN.{length, take, drop, getD}
 use lib.Dec.{eqb, ltb, leb}
 use Rattle.address.specs.Choice.{if_then_else_}
@@ -16,26 +14,21 @@ pub use Rattle.header.specs.declared.Reading.the-variants.{Found, Refuse
 
 -- ---- how many octets an address takes
 
--- an address takes so many octets at a time: pairs
-abbrev pub unit : ℕ
-unit = 2
-
 -- the most octets that an address takes
 abbrev pub mostOctets : ℕ
 mostOctets = 8
 
--- "The address takes the fewest pairs of octets that hold it": the bit length, rounded up to whole pairs. specs/Fewest.antt says that
--- these are the fewest.
+-- "Now the address takes the fewest octets": the bit length, rounded up to whole octets. specs/Fewest.antt says that these are the fewest.
 unfoldable pub size : ℕ → ℕ
-size a = (bitLength a + (8 * unit - 1)) / (8 * unit) * unit
+size a = (bitLength a + 7) / 8
 
--- "2, 4, 6 or 8 octets"
+-- "1 to 8"
 abbrev pub IsSize : ℕ → Type 0
-IsSize s = (s ≡ 2) ⊎ (s ≡ 4) ⊎ (s ≡ 6) ⊎ (s ≡ 8)
+IsSize s = (1 ≤ s) × (s ≤ 8)
 
 -- the test for it, of a size that is at least 1
 unfoldable pub sizeAllowed : ℕ → Bool
-sizeAllowed s = leb s mostOctets && eqb (s % unit) 0
+sizeAllowed s = leb s mostOctets
 
 -- ---- writing
 
@@ -116,19 +109,20 @@ sizeTold p = getD p 1 0 % 32 + 1
 unfoldable pub addressOctets : ℕ → List ℕ → List ℕ
 addressOctets s p = take s (drop fixedOctets p)
 
--- "with 2 octets, address zero is 9; with more, a first pair of zeros is 6": 0 where neither is
-unfoldable pub zeroFault : ℕ → List ℕ → ℕ
-zeroFault s os =
-    if eqb s unit then if eqb (value os) 0 then 9 else 0
-    else if eqb (value (take unit os)) 0 then 6
-    else 0
+-- "6 means .. a first octet of zero where there are several, and 9 means a single zero octet": of an address in s octets, by the first of
+-- them; 0 where neither is
+unfoldable pub zeroFault : ℕ → ℕ → ℕ
+zeroFault s first =
+    if not (eqb first 0) then 0
+    else if eqb s 1 then 9
+    else 6
 
--- "Then a size other than 2, 4, 6 or 8 octets is 6. Then a missing address octet is 4. Then .." `zeroFault`
+-- "6 means a size above 8 ..": then "a missing address octet is 4", and then `zeroFault`
 unfoldable pub addressFault : ℕ → List ℕ → ℕ
 addressFault s p =
     if not (sizeAllowed s) then 6
     else if ltb (length p) (fixedOctets + s) then 4
-    else zeroFault s (addressOctets s p)
+    else zeroFault s (getD p fixedOctets 0)
 
 -- "The answer is the address and the place where the payload begins."
 unfoldable pub reading : List ℕ → HeaderAnswer

@@ -4,11 +4,11 @@ use mathlib.Core.Path.{_≡_}
 use mathlib.Core.Logic.{_⊎_}
 use mathlib.Core.List.{List, _∷_, _++_}
 use Prim.Native.Nat.{ℕ, _+_, _-_, _≤_, _<_}
-use lib.ListN.{length, take, drop, getD, replicate}
+use lib.ListN.{length, getD}
 use Rattle.address.specs.Order.{Order, done, _when_otherwise_, GivenExactly}
 use Rattle.octets.specs.Octets.{value}
 use Rattle.octets.specs.Lent.{RefusalLeaves, SuccessWrites}
-use Rattle.header.specs.Header.{unit, IsSize, header, writing, reading}
+use Rattle.header.specs.Header.{IsSize, header, writing, reading}
 
 -- ---- writing
 
@@ -43,21 +43,18 @@ OtherTopBits o = (o < 0b10000000) ⊎ (0b10100000 ≤ o)
 abbrev pub sizeSaid : List ℕ → ℕ
 sizeSaid p = octetAt 1 p - 0b10000000 + 1
 
--- "a first pair of zeros", of the address's octets
-abbrev pub FirstZeros : List ℕ → Type 0
-FirstZeros p = take unit (drop 3 p) ≡ replicate unit 0
-
--- behind the first three octets, where s address octets are said
+-- behind the first three octets, where s address octets are said: "Document 01's size rule becomes '1 to 8', refusal 6 means a size above 8 or
+-- a first octet of zero where there are several, and 9 means a single zero octet."
 abbrev pub sizedOrder : ℕ → List ℕ → Order
 sizedOrder s p =
-    -- "Then a size other than 2, 4, 6 or 8 octets is 6."
-    6 when (IsSize s → ⊥)
+    -- "a size above 8"
+    6 when 8 < s
     -- "Then a missing address octet is 4."
     otherwise 4 when length p < 3 + s
-    -- "Then, with 2 octets, address zero is 9;"
-    otherwise 9 when ((s ≡ unit) × FirstZeros p)
-    -- "with more, a first pair of zeros is 6."
-    otherwise 6 when ((unit < s) × FirstZeros p)
+    -- "a single zero octet"
+    otherwise 9 when ((s ≡ 1) × (octetAt 3 p ≡ 0))
+    -- "a first octet of zero where there are several"
+    otherwise 6 when ((1 < s) × (octetAt 3 p ≡ 0))
     otherwise done
 
 abbrev pub readingOrder : List ℕ → Order

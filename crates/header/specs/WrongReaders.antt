@@ -8,9 +8,9 @@ use Rattle.octets.specs.Octets.{value}
 use Rattle.header.specs.Header.{fixedOctets, reading, found, startFault, sizeTold, addressOctets}
 use Rattle.header.specs.RoundTrip.{HeaderReader}
 
--- it takes four octets also where the first pair is zeros and two would do; right otherwise
+-- it takes two octets also where the first is zero and one would do; right otherwise
 unfoldable pub surplusReader : HeaderReader
 surplusReader p =
-    if eqb (startFault p) 0 && eqb (sizeTold p) 4 && leb (fixedOctets + 4) (length p) && ltb 0 (value (addressOctets 4 p))
-    then found (value (addressOctets 4 p)) (fixedOctets + 4)
+    if eqb (startFault p) 0 && eqb (sizeTold p) 2 && leb (fixedOctets + 2) (length p) && ltb 0 (value (addressOctets 2 p))
+    then found (value (addressOctets 2 p)) (fixedOctets + 2)
     else reading p

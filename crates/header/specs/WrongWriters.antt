@@ -1,9 +1,12 @@
 -- Wrong writers, which demand 2 must exclude.
-use lib.Dec.{eqb}
+use mathlib.Core.Bool.{_&&_}
+use mathlib.Core.List.{[], _∷_}
+use Prim.Native.Nat.{_+_}
+use lib.Dec.{eqb, leb}
 use lib.ListN.{length, take, set}
 use Rattle.address.specs.Choice.{if_then_else_}
 use Rattle.octets.specs.Octets.{wrote, refuseWriting, write}
-use Rattle.header.specs.Header.{place, header, writing}
+use Rattle.header.specs.Header.{size, fixedOctets, place, header, writing}
 use Rattle.header.specs.RoundTrip.{HeaderWriter}
 
 -- "One that writes no header yet says done": the buffer stays as it was
@@ -24,4 +27,10 @@ roomlessWriter a buffer =
 unfoldable pub spoilingWriter : HeaderWriter
 spoilingWriter a buffer =
     if eqb (writing a buffer .answer .refusal) 0 then record { answer = wrote (place a); buffer = set (writing a buffer .buffer) (place a) 0xFF }
+    else writing a buffer
+
+-- it writes two octets where one is enough; right otherwise
+unfoldable pub paddingWriter : HeaderWriter
+paddingWriter a buffer =
+    if eqb (size a) 1 && leb (fixedOctets + 2) (length buffer) then write (0xF1 ∷ 0x81 ∷ 0x0F ∷ 0 ∷ a ∷ []) buffer
     else writing a buffer

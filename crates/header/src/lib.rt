@@ -3,11 +3,10 @@ use address::Address;
 use octets::Written;
 ghost use mathlib.Core.Path.{_≡_};
 ghost use Prim.Native.Nat.{_≤_};
-ghost use lib.ListN.{length};
-ghost use Rattle.header.specs.Header.{size, unit, mostOctets, writing, headerAnswer, reading, startFault, zeroFault, addressFault};
+ghost use Rattle.header.specs.Header.{size, writing, headerAnswer, reading, startFault, zeroFault, addressFault};
 
-// Refusals: "the packet ends too early", "one of the first three octets is wrong", "size not allowed, or more pairs than needed",
-// "lent output too short".
+// Refusals: "the packet ends too early", "one of the first three octets is wrong", "a size above 8 or a first octet of zero where there are
+// several", "lent output too short".
 pub const ENDS_EARLY: u8 = 4;
 
 pub const WRONG_START: u8 = 5;
@@ -23,8 +22,6 @@ const CRITICAL_PATTERN: u8 = 4;
 const ROUTING_TYPE: u8 = 15;
 
 const FIXED_OCTETS: usize = 3;
-// An address takes so many octets at a time, and at most so many.
-const UNIT: usize = 2;
 
 const MOST_OCTETS: usize = 8;
 
@@ -38,7 +35,7 @@ pub enum Reading {
 fn size_of(address: Address) -> usize
     ensures { λ r. ⌜ r ≡ size (address .number) ⌝ }
 {
-    (address.bit_length() as usize + (8 * UNIT - 1)) / (8 * UNIT) * UNIT
+    (address.bit_length() as usize + 7) / 8
 }
 
 // Writes the address's header to the front of the lent buffer.
@@ -94,22 +91,17 @@ fn start_fault(packet: &[u8]) -> u8
     0
 }
 
-// The fault of an address's octets, 0 where there is none: zero, or octets that a shorter form does without.
-fn zero_fault(octets: &[u8]) -> u8
-    requires { ⌜ unit ≤ length (now octets) ⌝ }
-    requires { ⌜ length (now octets) ≤ mostOctets ⌝ }
-    ensures { λ r. ⌜ r ≡ zeroFault (length (now (octets .entry))) (now (octets .entry)) ⌝ }
+// The fault of an address in so many octets, by the first of them; 0 where there is none: it is zero, or a shorter form does without the octet.
+fn zero_fault(size: usize, first: u8) -> u8
+    ensures { λ r. ⌜ r ≡ zeroFault size first ⌝ }
 {
-    if octets.len() == UNIT {
-        if octets::get(octets) == 0 {
-            return address::ZERO_ADDRESS;
-        }
+    if first != 0 {
         return 0;
     }
-    if octets::get(&octets[..UNIT]) == 0 {
-        return WRONG_SIZE;
+    if size == 1 {
+        return address::ZERO_ADDRESS;
     }
-    0
+    WRONG_SIZE
 }
 
 // The fault of what follows the first three octets, where the second tells this size; 0 where there is none.
@@ -120,14 +112,10 @@ fn address_fault(packet: &[u8], size: usize) -> u8
     if MOST_OCTETS < size {
         return WRONG_SIZE;
     }
-    if size % UNIT != 0 {
-        return WRONG_SIZE;
-    }
-    let end = FIXED_OCTETS + size;
-    if packet.len() < end {
+    if packet.len() < FIXED_OCTETS + size {
         return ENDS_EARLY;
     }
-    zero_fault(&packet[FIXED_OCTETS..end])
+    zero_fault(size, packet[FIXED_OCTETS])
 }
 
 // Reads the header at the front of a packet.

@@ -61,10 +61,10 @@ table =
     ∷ passes (withCounts 2 2 (fresh root)) 0b1110 (refusedHop 7)
     -- "P node 10, counts 2,2, destination 101011: child 1010."
     ∷ passes (withCounts 2 2 (fresh 0b10)) 0b101011 (downTo 0b1010)
-    -- "P address 111110: header F1 81 0F 00 3E."
-    ∷ writes 0b111110 (1 ∷ 2 ∷ 3 ∷ 4 ∷ 5 ∷ 6 ∷ []) (0xF1 ∷ 0x81 ∷ 0x0F ∷ 0x00 ∷ 0x3E ∷ [])
-    -- "P header F1 81 0F 00 00: 9. P header F1 83 0F 00 00 00 3E: 6."
-    ∷ unread (0xF1 ∷ 0x81 ∷ 0x0F ∷ 0x00 ∷ 0x00 ∷ []) 9
+    -- "P address 111110: header ..", which is now F1 80 0F 3E
+    ∷ writes 0b111110 (1 ∷ 2 ∷ 3 ∷ 4 ∷ 5 ∷ 6 ∷ []) (0xF1 ∷ 0x80 ∷ 0x0F ∷ 0x3E ∷ [])
+    -- "P header F1 81 0F 00 00", now 6. "P header F1 83 0F 00 00 00 3E: 6."
+    ∷ unread (0xF1 ∷ 0x81 ∷ 0x0F ∷ 0x00 ∷ 0x00 ∷ []) 6
     ∷ unread (0xF1 ∷ 0x83 ∷ 0x0F ∷ 0x00 ∷ 0x00 ∷ 0x00 ∷ 0x3E ∷ []) 6
     ∷ []
 

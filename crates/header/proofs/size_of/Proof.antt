@@ -1,5 +1,6 @@
 -- `header::size_of` meets its contract: it is the definition, at the bit length. Assumes nothing.
 use Rattle.header.specs.Header.{size}
+use native.Mathlib.Omega.{arith}
 use borrow.Author.Needs.{needs}
 use Rattle.header.proofs.size_of.Statement.{statement}
 use Rattle.header.proofs.size_of.Tie as tie
@@ -13,27 +14,12 @@ bit-length-requires c κs = search needs
 cast-result : tie.Need-cast-result
 cast-result c = search needs
 
-mul-result : tie.Need-mul-result
-mul-result c = search needs
-
-sub-result : tie.Need-sub-result
-sub-result c = search needs
-
 add-result : tie.Need-add-result
 add-result c = search needs
 
-mul-result-2 : tie.Need-mul-result-2
-mul-result-2 c = search needs
-
-div-result : tie.Need-div-result
-div-result c = search needs
-
-mul-result-3 : tie.Need-mul-result-3
-mul-result-3 c = search needs
-
 returns : tie.Need-returns
 unfolding size
-returns c = rw (c .bit-length .ensures)
+returns c = omega (arith, c .bit-length .ensures)
 
 pub size-of-spec : {M : Type 1} → statement M
 size-of-spec =
@@ -41,10 +27,5 @@ size-of-spec =
     (tie.spec
     bit-length-requires
     cast-result
-    mul-result
-    sub-result
     add-result
-    mul-result-2
-    div-result
-    mul-result-3
     returns)

@@ -1,15 +1,13 @@
 -- `header::write` meets its contract: each return is one case of `writing`; on success the three octets that are set and the octets that are
 -- put behind them are the header. Assumes nothing.
 use mathlib.Core.Path.{_≡_, sym, ap, _∙_}
-use mathlib.Core.List.{List}
-use Prim.Native.Nat.{ℕ, _+_, _-_, _≤_, _<_, _^_}
+use Prim.Native.Nat.{ℕ, _+_, _-_, _≤_}
 use native.Mathlib.Nat.{pos-of-ne-zero}
 use native.Mathlib.Omega.{arith}
 use lib.ListN.{length, length-set, length-take, length-drop}
-use Rattle.address.specs.Bits.{longest}
 use Rattle.octets.specs.Octets.{octets, WriteEffect, refuseWriting, write, wrote}
 use Rattle.address.specs.Numbers.{IsAddress}
-use Rattle.header.specs.Header.{size, place, header}
+use Rattle.header.specs.Header.{place, header}
 use Rattle.header.proofs.Size.{size-le, size-ge}
 use Rattle.header.proofs.Writing.{length-header, writing-zero, writing-short, writing-done, framed-header}
 use borrow.Author.Needs.{needs}
@@ -25,7 +23,7 @@ address : (c : tie.Else1) → IsAddress (c .before .before .before .args .addres
 address c = let a = c .before .before .before .args .address .number in record { some = omega (arith, pos-of-ne-zero {n = a} (c .if1 .left)); fits = omega arith }
 
 -- the octets that it takes
-bounds : (c : tie.After-size-of) → (2 ≤ c .size-of .result) × (c .size-of .result ≤ 8)
+bounds : (c : tie.After-size-of) → (1 ≤ c .size-of .result) × (c .size-of .result ≤ 8)
 bounds c = omega (arith, c .size-of .ensures, size-ge (address (c .before)), size-le (address (c .before) .fits))
 
 returns : tie.Need-returns
