@@ -42,7 +42,7 @@ enum pasa_refusal {
     PASA_TOO_LONG = 3,        /* the child would be longer than 64 bits */
     PASA_ENDS_EARLY = 4,      /* the packet ends too early */
     PASA_WRONG_START = 5,     /* one of the first three octets is wrong */
-    PASA_WRONG_SIZE = 6,      /* size not allowed, or more pairs than needed */
+    PASA_WRONG_SIZE = 6,      /* a size above 8, or a first octet of zero where there are several */
     PASA_CHILD_NOT_GIVEN = 7, /* destination below this node, child not given */
     PASA_OTHER_PREFIX = 8,    /* IPv6 prefix differs */
     PASA_ZERO_ADDRESS = 9,    /* an address is zero */
@@ -204,7 +204,7 @@ static inline const char *pasa_refusal_text(uint8_t refusal)
     case PASA_WRONG_START:
         return "one of the first three octets is wrong";
     case PASA_WRONG_SIZE:
-        return "size not allowed, or more pairs than needed";
+        return "a size above 8, or a first octet of zero where there are several";
     case PASA_CHILD_NOT_GIVEN:
         return "destination below this node, child not given";
     case PASA_OTHER_PREFIX:

@@ -127,7 +127,7 @@ static void refusal_texts(void)
     same_text("refusal 3", pasa_refusal_text(3), "the child would be longer than 64 bits");
     same_text("refusal 4", pasa_refusal_text(4), "the packet ends too early");
     same_text("refusal 5", pasa_refusal_text(5), "one of the first three octets is wrong");
-    same_text("refusal 6", pasa_refusal_text(6), "size not allowed, or more pairs than needed");
+    same_text("refusal 6", pasa_refusal_text(6), "a size above 8, or a first octet of zero where there are several");
     same_text("refusal 7", pasa_refusal_text(7), "destination below this node, child not given");
     same_text("refusal 8", pasa_refusal_text(8), "IPv6 prefix differs");
     same_text("refusal 9", pasa_refusal_text(9), "an address is zero");
@@ -223,25 +223,31 @@ static void read_as(const char *what, const uint8_t *packet, size_t length, uint
 
 static void headers(void)
 {
-    const uint8_t known[6] = {0xF1, 0x81, 0x0F, 0x00, 0x3E, 0x55};
+    const uint8_t known[5] = {0xF1, 0x80, 0x0F, 0x3E, 0x55};
     uint8_t out[PASA_HEADER_MOST];
     memset(out, 0x55, sizeof out);
     struct pasa_written written = pasa_header_write(bits("111110"), out, sizeof out);
-    same("the header of 111110: its octets", written.count, 5);
+    same("the header of 111110: its octets", written.count, 4);
     same("the header of 111110: the refusal", written.refusal, PASA_DONE);
     same_octets("the header of 111110, and one behind it", out, known, sizeof known);
-    read_as("the header of 111110", known, 5, bits("111110"), 5, PASA_DONE);
-    read_as("the header of 111110 with a payload", known, 6, bits("111110"), 5, PASA_DONE);
+    read_as("the header of 111110", known, 4, bits("111110"), 4, PASA_DONE);
+    read_as("the header of 111110 with a payload", known, 5, bits("111110"), 4, PASA_DONE);
+    same("the header of 255: its octets", pasa_header_write(255, out, sizeof out).count, 4);
+    same("the header of 256: its octets", pasa_header_write(256, out, sizeof out).count, 5);
     same("the header of 65,535: its octets", pasa_header_write(65535, out, sizeof out).count, 5);
-    same("the header of 65,536: its octets", pasa_header_write(65536, out, sizeof out).count, 7);
+    same("the header of 65,536: its octets", pasa_header_write(65536, out, sizeof out).count, 6);
     same("the longest header: its octets", pasa_header_write(UINT64_MAX, out, sizeof out).count, PASA_HEADER_MOST);
-    same("no room for a header", pasa_header_write(65536, out, 6).refusal, PASA_NO_ROOM);
+    same("no room for a header", pasa_header_write(65536, out, 5).refusal, PASA_NO_ROOM);
     same("no buffer for a header", pasa_header_write(1, NULL, 0).refusal, PASA_NO_ROOM);
     same("a header of zero", pasa_header_write(0, NULL, 0).refusal, PASA_ZERO_ADDRESS);
 
-    read_as("F1 81 0F 00 00", (const uint8_t[]){0xF1, 0x81, 0x0F, 0x00, 0x00}, 5, 0, 0, PASA_ZERO_ADDRESS);
+    read_as("F1 80 0F 00", (const uint8_t[]){0xF1, 0x80, 0x0F, 0x00}, 4, 0, 0, PASA_ZERO_ADDRESS);
+    read_as("F1 81 0F 00 3E", (const uint8_t[]){0xF1, 0x81, 0x0F, 0x00, 0x3E}, 5, 0, 0, PASA_WRONG_SIZE);
+    read_as("F1 81 0F 00 00", (const uint8_t[]){0xF1, 0x81, 0x0F, 0x00, 0x00}, 5, 0, 0, PASA_WRONG_SIZE);
     read_as("F1 83 0F 00 00 00 3E", (const uint8_t[]){0xF1, 0x83, 0x0F, 0x00, 0x00, 0x00, 0x3E}, 7, 0, 0, PASA_WRONG_SIZE);
-    read_as("F1 82 0F and more", (const uint8_t[]){0xF1, 0x82, 0x0F, 0x00, 0x00, 0x3E}, 6, 0, 0, PASA_WRONG_SIZE);
+    read_as("F1 88 0F", (const uint8_t[]){0xF1, 0x88, 0x0F}, 3, 0, 0, PASA_WRONG_SIZE);
+    read_as("F1 82 0F", (const uint8_t[]){0xF1, 0x82, 0x0F}, 3, 0, 0, PASA_ENDS_EARLY);
+    read_as("F1 82 0F 01 00 00", (const uint8_t[]){0xF1, 0x82, 0x0F, 0x01, 0x00, 0x00}, 6, 65536, 6, PASA_DONE);
     read_as("F1 81 0F 00", (const uint8_t[]){0xF1, 0x81, 0x0F, 0x00}, 4, 0, 0, PASA_ENDS_EARLY);
     read_as("F1 A1", (const uint8_t[]){0xF1, 0xA1}, 2, 0, 0, PASA_WRONG_START);
     read_as("no octets", NULL, 0, 0, 0, PASA_ENDS_EARLY);

@@ -21,7 +21,7 @@ static struct pasa_read reference_header_read(const uint8_t *packet, size_t leng
         }
     }
     size_t size = (packet[1] & 0x1Fu) + 1;
-    if (size != 2 && size != 4 && size != 6 && size != 8) {
+    if (size > 8) {
         answer.refusal = PASA_WRONG_SIZE;
         return answer;
     }
@@ -29,8 +29,8 @@ static struct pasa_read reference_header_read(const uint8_t *packet, size_t leng
         answer.refusal = PASA_ENDS_EARLY;
         return answer;
     }
-    if (packet[3] == 0 && packet[4] == 0) {
-        answer.refusal = size == 2 ? PASA_ZERO_ADDRESS : PASA_WRONG_SIZE;
+    if (packet[3] == 0) {
+        answer.refusal = size == 1 ? PASA_ZERO_ADDRESS : PASA_WRONG_SIZE;
         return answer;
     }
     for (size_t i = 0; i < size; i++)

@@ -11,7 +11,7 @@ local DONE, ENDS_EARLY, WRONG_START, WRONG_SIZE, ZERO_ADDRESS = 0, 4, 5, 6, 9
 local REFUSALS = {
     [ENDS_EARLY] = "the packet ends too early",
     [WRONG_START] = "one of the first three octets is wrong",
-    [WRONG_SIZE] = "size not allowed, or more pairs than needed",
+    [WRONG_SIZE] = "a size above 8, or a first octet of zero where there are several",
     [ZERO_ADDRESS] = "an address is zero",
 }
 
@@ -22,21 +22,15 @@ local SIZE_BITS = 0x1F
 local TYPE = 15
 local START = 3
 
--- The rule of sizes, "the fewest pairs of octets that hold it: 2, 4, 6 or 8 octets". Nothing outside these two constants and two functions
--- knows it, since a change of it is announced.
-local UNIT = 2
+-- "the fewest octets, 1 to 8"
 local LARGEST = 8
 
-local function size_allowed(size)
-    return size % UNIT == 0 and size <= LARGEST
-end
-
--- "with 2 octets, address zero is 9; with more, a first pair of zeros is 6"; `first_unit` is that pair.
-local function zero_fault(size, first_unit)
-    if first_unit:uint() ~= 0 then
+-- "a first octet of zero where there are several" is 6, "a single zero octet" 9.
+local function zero_fault(size, first)
+    if first ~= 0 then
         return DONE
     end
-    return size == UNIT and ZERO_ADDRESS or WRONG_SIZE
+    return size == 1 and ZERO_ADDRESS or WRONG_SIZE
 end
 
 local fields = {
@@ -128,17 +122,17 @@ local function read_size(tvb)
     return octet(tvb, 1) % (SIZE_BITS + 1) + 1
 end
 
--- "Then a size other than 2, 4, 6 or 8 octets is 6. Then a missing address octet is 4. Then .." the zeros.
+-- "a size above 8" is 6. "Then a missing address octet is 4." Then the zeros.
 local function read_address(tvb)
     local size = read_size(tvb)
-    if not size_allowed(size) then
+    if size > LARGEST then
         return WRONG_SIZE
     end
     local present = presence(tvb, START + size)
     if present ~= DONE then
         return present
     end
-    return zero_fault(size, tvb:range(START, UNIT))
+    return zero_fault(size, octet(tvb, START))
 end
 
 -- The whole reading: its refusal (or DONE, or CUT), and how many of the first three octets were looked at.

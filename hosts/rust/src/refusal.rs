@@ -34,7 +34,7 @@ const TABLE: [(Refusal, &str); 14] = [
     (Refusal::TooLong, "the child would be longer than 64 bits"),
     (Refusal::EndsEarly, "the packet ends too early"),
     (Refusal::WrongStart, "one of the first three octets is wrong"),
-    (Refusal::WrongSize, "size not allowed, or more pairs than needed"),
+    (Refusal::WrongSize, "a size above 8, or a first octet of zero where there are several"),
     (Refusal::ChildNotGiven, "destination below this node, child not given"),
     (Refusal::OtherPrefix, "IPv6 prefix differs"),
     (Refusal::ZeroAddress, "an address is zero"),

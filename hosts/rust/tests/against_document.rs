@@ -98,7 +98,7 @@ impl Random {
             4 => {
                 let count = self.below(14);
                 packet = self.octets(count);
-                for (octet, right) in packet.iter_mut().zip([0xF1, 0x81, 15]) {
+                for (octet, right) in packet.iter_mut().zip([0xF1, 0x80, 15]) {
                     *octet = right;
                 }
                 if count > 1 {
@@ -332,10 +332,11 @@ fn header_reads() {
     // every beginning of one and two octets, with right octets behind it, and every beginning of valid packets
     for first in 0..=u16::MAX {
         let [a, b] = first.to_be_bytes();
-        header_read(&[a, b, 15, 0, 1], seen);
-        header_read(&[0xF1, a, b, 0, 1, 0, 1, 0, 1, 0, 1], seen);
+        header_read(&[a, b, 15, 1], seen);
+        header_read(&[0xF1, a, b, 1, 0, 1, 0, 1, 0, 1, 0], seen);
+        header_read(&[0xF1, 0x80, 15, a, b], seen);
         header_read(&[0xF1, 0x81, 15, a, b], seen);
-        header_read(&[0xF1, 0x83, 15, a, b, 0, 1], seen);
+        header_read(&[0xF1, 0x82, 15, a, b, 0], seen);
     }
     let random = &mut Random(7);
     for _ in 0..50_000 {

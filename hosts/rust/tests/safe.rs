@@ -87,10 +87,11 @@ fn next_hops() {
 #[test]
 fn headers_and_ipv6_forms() {
     let mut out = [0; 16];
-    assert_eq!(pasa::write_header(address("111110"), &mut out), Ok(5));
-    assert_eq!(out[..5], [0xF1, 0x81, 0x0F, 0x00, 0x3E]);
-    assert_eq!(pasa::read_header(&out), Ok((address("111110"), 5)));
-    assert_eq!(pasa::write_header(address("111110"), &mut out[..4]), Err(Refusal::NoRoom));
+    assert_eq!(pasa::write_header(address("111110"), &mut out), Ok(4));
+    assert_eq!(out[..4], [0xF1, 0x80, 0x0F, 0x3E]);
+    assert_eq!(pasa::read_header(&out), Ok((address("111110"), 4)));
+    assert_eq!(pasa::read_header(&[0xF1, 0x81, 0x0F, 0x00, 0x3E]), Err(Refusal::WrongSize));
+    assert_eq!(pasa::write_header(address("111110"), &mut out[..3]), Err(Refusal::NoRoom));
     let prefix = [0x20, 0x01, 0x0d, 0xb8, 0, 0, 0, 0];
     assert_eq!(pasa::write_ipv6(&prefix, address("111110"), &mut out), Ok(16));
     assert_eq!(std::net::Ipv6Addr::from(out).to_string(), "2001:db8::3e");

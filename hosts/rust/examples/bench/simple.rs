@@ -104,7 +104,7 @@ pub fn header_write(address: u64, out: &mut [u8]) -> Written {
     if address == 0 {
         return Written { count: 0, refusal: 9 };
     }
-    let size = bit_length(address).div_ceil(16) as usize * 2;
+    let size = bit_length(address).div_ceil(8) as usize;
     let count = 3 + size;
     if out.len() < count {
         return Written { count: 0, refusal: 10 };
@@ -128,14 +128,14 @@ pub fn header_read(packet: &[u8]) -> Read {
         }
     }
     let size = usize::from(packet[1] % 32) + 1;
-    if size > 8 || size % 2 != 0 {
+    if size > 8 {
         return refused(6);
     }
     let Some(octets) = packet.get(3..3 + size) else {
         return refused(4);
     };
-    if octets[0] == 0 && octets[1] == 0 {
-        return refused(if size == 2 { 9 } else { 6 });
+    if octets[0] == 0 {
+        return refused(if size == 1 { 9 } else { 6 });
     }
     let address = octets.iter().fold(0, |number, octet| number << 8 | u64::from(*octet));
     Read { address, place: 3 + size, refusal: 0 }

@@ -173,19 +173,14 @@ pub fn packet_next_hop(node: Node, packet: &[u8]) -> Hop {
 }
 
 /// "octet 0xF1 ..; octet 100sssss, where sssss is the number of address octets less one ..; octet 15 as the type ..; the address, most
-/// significant octet first". "The address takes the fewest pairs of octets that hold it".
+/// significant octet first". "Now the address takes the fewest octets, 1 to 8."
 pub fn header(address: u64) -> Vec<u8> {
     let mut bits = bits(address);
-    let mut pairs = 1;
-    while bits.len() > pairs * 16 {
-        pairs += 1;
-    }
-    while bits.len() < pairs * 16 {
+    while bits.len() % 8 != 0 {
         bits.insert(0, false);
     }
-    let mut octets = vec![0xF1, 0b1000_0000 + (pairs as u8 * 2 - 1), 15];
-    octets.extend(bits.chunks(8).map(|octet| number(octet) as u8));
-    octets
+    let address: Vec<u8> = bits.chunks(8).map(|octet| number(octet) as u8).collect();
+    [&[0xF1, 0b1000_0000 + (address.len() as u8 - 1), 15], &address[..]].concat()
 }
 
 fn written(refusals: [(bool, u8); 3], octets: impl FnOnce() -> Vec<u8>, out: &mut [u8]) -> Written {
@@ -213,8 +208,8 @@ fn octet_bits(octets: &[u8]) -> Bits {
 }
 
 /// "the first three octets are checked in order; one that is absent is 4, one that is wrong is 5 (of the second only its top three bits).
-/// Then a size other than 2, 4, 6 or 8 octets is 6. Then a missing address octet is 4. Then, with 2 octets, address zero is 9; with more, a
-/// first pair of zeros is 6."
+/// .. Then a missing address octet is 4." "Document 01's size rule becomes '1 to 8', refusal 6 means a size above 8 or a first octet of zero
+/// where there are several, and 9 means a single zero octet."
 pub fn header_read(packet: &[u8]) -> Read {
     let refused = |refusal| Read { address: 0, place: 0, refusal };
     for place in 0..3 {
@@ -232,17 +227,17 @@ pub fn header_read(packet: &[u8]) -> Read {
         }
     }
     let size = number(&octet_bits(&packet[1..2])[3..]) as usize + 1;
-    if ![2, 4, 6, 8].contains(&size) {
+    if !(1..=8).contains(&size) {
         return refused(6);
     }
     if packet.len() < 3 + size {
         return refused(4);
     }
-    let octets = &packet[3..3 + size];
-    if octets.starts_with(&[0, 0]) {
-        return refused(if size == 2 { 9 } else { 6 });
+    match &packet[3..3 + size] {
+        [0] => refused(9),
+        [0, ..] => refused(6),
+        octets => Read { address: number(&octet_bits(octets)), place: 3 + size, refusal: 0 },
     }
-    Read { address: number(&octet_bits(octets)), place: 3 + size, refusal: 0 }
 }
 
 /// "prefix of 8 octets, then the address in 8 octets padded with leading zeros"

@@ -23,13 +23,13 @@ of a packet: HEX is its octets, with spaces or colons between them or not, in on
 or in several; - reads them from standard input. Place is where the payload begins.
 
     $ hall header write 111110
-    f1 81 0f 00 3e
-    $ hall header read f1 81 0f 00 3e 68 69
+    f1 80 0f 3e
+    $ hall header read f1 80 0f 3e 68 69
     address 111110 (0x3e)
     kind    router
     depth   1
     parent  1
-    place   5
+    place   4
     payload 2 octets
 ",
     run,

@@ -26,7 +26,7 @@ pub fn read(text: &str) -> Result<Vec<u8>, Expected> {
     Ok(octets)
 }
 
-/// The octets as text, as `f1 81 0f 00 3e`.
+/// The octets as text, as `f1 80 0f 3e`.
 pub fn show(octets: &[u8]) -> String {
     let shown: Vec<String> = octets.iter().map(|octet| format!("{octet:02x}")).collect();
     shown.join(" ")
