@@ -35,8 +35,8 @@ pub record Headers : Type 0 where
   pub oneToEight : (a : ℕ) → IsAddress a → (1 ≤ size a) × (size a ≤ 8)
   pub holds : (a : ℕ) → IsAddress a → a < 256 ^ size a
   pub fewest : (a s : ℕ) → IsAddress a → a < 256 ^ s → size a ≤ s
-  -- the test for a size is right about every size that the second octet can say
-  pub sizes : (s : ℕ) → 1 ≤ s → (sizeAllowed s ≡ true) ↔ ((1 ≤ s) × (s ≤ 8))
+  -- the test for a size; the second octet can say none below 1
+  pub sizes : (s : ℕ) → (sizeAllowed s ≡ true) ↔ (s ≤ 8)
   -- "most significant octet first"
   pub mostSignificantFirst : (o : ℕ) (os : List ℕ) → value (o ∷ os) ≡ o * 256 ^ length os + value os
   -- octets give their number back, and numbers their octets

@@ -54,7 +54,7 @@ unfolding sizeAllowed
 le-sizeAllowed {s} h = le-leb s mostOctets h
 
 pub size-exactly : SizeExactly
-size-exactly s some = (λ h. (some, sizeAllowed-le h), λ h. le-sizeAllowed (h .1))
+size-exactly s = (sizeAllowed-le, le-sizeAllowed)
 
 pub fewest-octets : FewestOctets
 unfolding size

@@ -14,6 +14,6 @@ pub record IsFewest (a : ℕ) : Type 0 where
 abbrev pub FewestOctets : Type 0
 FewestOctets = (a : ℕ) → IsAddress a → IsFewest a
 
--- the test is right about every size that an octet can tell
+-- the test is right about every size; the second octet tells none below 1
 abbrev pub SizeExactly : Type 0
-SizeExactly = (s : ℕ) → 1 ≤ s → (sizeAllowed s ≡ true) ↔ IsSize s
+SizeExactly = (s : ℕ) → (sizeAllowed s ≡ true) ↔ (s ≤ 8)

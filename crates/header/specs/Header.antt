@@ -26,7 +26,7 @@ size a = (bitLength a + 7) / 8
 abbrev pub IsSize : ℕ → Type 0
 IsSize s = (1 ≤ s) × (s ≤ 8)
 
--- the test for it, of a size that is at least 1
+-- the test for it: the second octet tells no size below 1
 unfoldable pub sizeAllowed : ℕ → Bool
 sizeAllowed s = leb s mostOctets
 
