@@ -24,7 +24,7 @@ use Rattle.address.proofs.KindLaws.{kinds}
 use Rattle.address.proofs.RefusalLaws.{address-refusals}
 use Rattle.address.proofs.Promises.{one-made, of-promise, of-asks-nothing, new-promise, new-asks-nothing, bit-length-promise, bit-length-asks-nothing, is-host-promise, is-host-asks-nothing, depth-promise, depth-asks-nothing, parent-promise, parent-asks-nothing}
 use Rattle.address.specs.Kinds.{IsRoot, IsRouter, IsHost}
-use Rattle.octets.specs.Octets.{same}
+use Rattle.octets.specs.Octets.{value, joined, same}
 use Rattle.octets.proofs.Correspondence.{octets-one-to-one, same-exactly}
 use Rattle.octets.proofs.Promises.{put-asks-nothing, get-promise, get-asks-nothing}
 use Rattle.search.specs.Search.{childEnd, firstBits}
@@ -33,10 +33,11 @@ use Rattle.search.proofs.SearchLaws.{childEnd-past}
 use Rattle.search.proofs.Ones.{childEnd-leading}
 use Rattle.search.proofs.Promises.{child-end-promise, child-end-asks-nothing, child-end-by-bits-promise, child-end-by-bits-asks-nothing, same-child-end, first-bits-promise, first-bits-asks-nothing}
 use Rattle.header.specs.Header.{headerAnswer, place, header, reading}
-use Rattle.header.proofs.Size.{fewest-octets, size-exactly}
+use Rattle.header.proofs.Size.{fewest-octets}
 use Rattle.header.proofs.Writing.{length-header}
-use Rattle.header.proofs.Demand2.{header-round-trip}
+use Rattle.header.proofs.Demand2.{header-round-trip, wrote-header}
 use Rattle.header.proofs.RefusalLaws.{header-write-refusals, header-read-refusals}
+use Rattle.header.proofs.OneRule.{one-writer, one-reader}
 use Rattle.header.proofs.WrongWriters.{silent-writer-refuted, refusing-writer-refuted, roomless-writer-refuted, spoiling-writer-refuted, padding-writer-refuted}
 use Rattle.header.proofs.WrongReaders.{surplus-reader-refuted}
 use Rattle.header.proofs.Promises.{one-reading, read-promise as header-read-promise, write-asks-nothing as header-write-asks-nothing, read-asks-nothing as header-read-asks-nothing}
@@ -107,7 +108,7 @@ use Rattle.claims.specs.Demand3.{treeOf, Growth, TreeWords, EveryList}
 use Rattle.claims.specs.NextHop.{HopAnswers, NextHop}
 use Rattle.claims.specs.Paths.{ThePath, exampleLine, exampleText, refusal11, hopsWord, binary, eachOnALine, TheLine}
 use Rattle.claims.specs.Structs.{Cases, OneAnswer, Fields}
-use Rattle.claims.specs.Excluded.{KnownRows, WrongNextHops, WrongChildren, OnePlanRule, WrongPlanRules, WrongWritersAndReaders, HoldOfOurs}
+use Rattle.claims.specs.Excluded.{KnownRows, WrongNextHops, WrongChildren, OneHeaderRule, OnePlanRule, WrongPlanRules, WrongWritersAndReaders, HoldOfOurs}
 use Rattle.claims.specs.Code.{AsksNothing, AnswersAsDefined, TheSearch}
 use Rattle.claims.specs.Exports.{ExportsAskNothing, ExportsAnswerAsDefined}
 
@@ -133,6 +134,7 @@ hosts-by-steps a b = (λ e. last (steps a) refl (sym (isHost-steps b) ∙ e), λ
 pub addresses : Addresses
 unfolding depth bitLength bits bitsIn lastBit steps stepsOf stepBits lastOf spelled childEnd firstBits
 addresses = record {
+  anyNumberButZero = λ a. (λ h. (h .some, h .fits), λ h. record { some = h .0; fits = h .1 });
   stringsHeld = one-to-one .held;
   numbersShown = one-to-one .shown;
   rightJustified = right-justified;
@@ -280,21 +282,28 @@ only-the-named = record {
 -- ---- demand 2
 
 pub headers : Headers
-unfolding place
+unfolding place header value joined
 headers = record {
-  written = λ a buffer h room. header-round-trip .readsBack a buffer h room .0;
+  laid = λ a. refl;
+  answersWritten = λ n. refl;
+  answersFound = λ a k. refl;
+  written = wrote-header;
   readsBack = λ a buffer payload n h done. header-round-trip .whereDone a buffer payload n h done .0;
   sparesTheRest = λ a buffer n h done. header-round-trip .whereDone a buffer [] n h done .1;
   acceptsAddresses = λ p a k are e. let so = header-round-trip .writtenSo p a k are e in (so .0, so .1);
   acceptsTheWritten = λ p a k are e. header-round-trip .writtenSo p a k are e .2;
-  acceptsSo = header-read-refusals .without;
+  acceptsSo = λ p e.
+      let so = header-read-refusals .without p e in
+      (so .os, so .payload, so .laid, (so .sized .0, so .sized .1, so .number, so .behind));
   takes = λ a. (refl, length-header a);
   oneToEight = λ a h. fewest-octets a h .allowed;
   holds = λ a h. fewest-octets a h .holds;
   fewest = λ a s h. fewest-octets a h .fewest s;
-  sizes = size-exactly;
   mostSignificantFirst = octets-one-to-one .mostFirst;
-  octetsHold = λ k n h. octets-one-to-one .held k n h .2;
+  valueOfNone = refl;
+  noOctet = tt;
+  anOctetMore = λ o os. (λ h. h, λ h. h);
+  octetsHold = octets-one-to-one .held;
   octetsShown = λ os are. octets-one-to-one .shown os are .1;
   sameOctets = same-exactly;
 }
@@ -470,6 +479,8 @@ hold-of-ours = record {
   demand1Child = child-refusals;
   demand1Hop = hop-refusals;
   demand1Packet = packet-refusals;
+  demand1Writer = header-write-refusals;
+  demand1Reader = header-read-refusals;
   demand1Plan = plan-refusals;
   demand2Header = header-round-trip;
   demand2Form = form-round-trip;
@@ -505,6 +516,9 @@ wrong-children = record {
   withAnAddressBeside = addressBeside-refuted;
 }
 
+pub one-header-rule : OneHeaderRule
+one-header-rule = record { toWrite = one-writer; toRead = one-reader }
+
 pub one-plan-rule : OnePlanRule
 one-plan-rule = record { ours = one-rule }
 
@@ -530,7 +544,7 @@ wrong-writers-and-readers = record {
   withoutRoom = roomless-writer-refuted;
   spoiling = spoiling-writer-refuted;
   padding = padding-writer-refuted;
-  longerForm = surplus-reader-refuted;
+  surplus = surplus-reader-refuted;
   silentForm = silent-form-writer-refuted;
   refusingForm = refusing-form-writer-refuted;
   shortPrefix = short-prefix-writer-refuted;

@@ -24,6 +24,7 @@ use Rattle.node.specs.declared.Node.{Node}
 pub record Addresses : Type 0 where
   -- "An address is a string of 1 to 64 bits whose first bit is 1. It is held right-justified in a 64-bit number, so the address is any number
   -- but zero.": strings and numbers correspond one to one
+  pub anyNumberButZero : (a : ℕ) → IsAddress a ↔ ((0 < a) × (a < 2 ^ 64))
   pub stringsHeld : (bs : List Bit) → IsAddressString bs → IsAddress (number bs) × (bits (number bs) ≡ bs)
   pub numbersShown : (a : ℕ) → IsAddress a → IsAddressString (bits a) × (number (bits a) ≡ a)
   -- "right-justified": the last bit is worth 1, and a bit more doubles what stands before it

@@ -12,7 +12,6 @@ use Rattle.address.specs.Kinds.{IsHost}
 use Rattle.address.specs.declared.Kind.{Kind}
 use Rattle.octets.specs.Octets.{AreOctets}
 use Rattle.header.specs.Header.{header, writing, reading}
-use Rattle.header.specs.Refusals.{readingOrder}
 use Rattle.ipv6.specs.Form.{form, formWriting, formReading}
 use Rattle.node.specs.Node.{addressIn, fresh, count, childOf}
 use Rattle.node.specs.Refusals.{IsGood, IsBad}
@@ -36,6 +35,24 @@ pub record Orders : Type 1 where
   pub noneBefore : (order : Order) → (done then order) ≡ order
   pub moreBefore : (n : ℕ) (condition : Type 0) (rest order : Order)
       → ((n when condition otherwise rest) then order) ≡ (n when condition otherwise (rest then order))
+
+-- "Reading: the first three octets are checked in order; one that is absent is 4, one that is wrong is 5 (of the second only its top three
+-- bits)." "Then a missing address octet is 4." And, of document 02 (Three), "Document 01's size rule becomes '1 to 8', refusal 6 means a size
+-- above 8 or a first octet of zero where there are several, and 9 means a single zero octet." The second octet is 128, the bits 10000000, more
+-- than the size less one.
+abbrev pub headerOrder : List ℕ → Order
+headerOrder p =
+    4 when length p ≤ 0
+    otherwise 5 when (getD p 0 0 ≡ 0xF1 → ⊥)
+    otherwise 4 when length p ≤ 1
+    otherwise 5 when ((getD p 1 0 < 128) ⊎ (160 ≤ getD p 1 0))
+    otherwise 4 when length p ≤ 2
+    otherwise 5 when (getD p 2 0 ≡ 15 → ⊥)
+    otherwise 6 when 8 < (getD p 1 0 - 128) + 1
+    otherwise 4 when length p < 3 + ((getD p 1 0 - 128) + 1)
+    otherwise 9 when (((getD p 1 0 - 128) + 1 ≡ 1) × (getD p 3 0 ≡ 0))
+    otherwise 6 when ((1 < (getD p 1 0 - 128) + 1) × (getD p 3 0 ≡ 0))
+    otherwise done
 
 -- "is given exactly when that document says"
 pub record ExactlyWhen : Type 0 where
@@ -61,7 +78,7 @@ pub record ExactlyWhen : Type 0 where
   pub aPacket : (n : Node) (p : List ℕ) → addressIn n < 2 ^ 64 → AreOctets p
       → GivenExactly (
       (1 when IsBad n otherwise done)
-      then readingOrder p
+      then headerOrder p
       then (7 when ChildNotGiven n (reading p .address) otherwise done)
       ) (packetHop n p .refusal)
   -- the reading's refusals are the packet's, with a good record
@@ -73,24 +90,7 @@ pub record ExactlyWhen : Type 0 where
       otherwise 10 when length buffer < length (header a)
       otherwise done
       ) (writing a buffer .answer .refusal)
-  -- "Reading: the first three octets are checked in order; one that is absent is 4, one that is wrong is 5 (of the second only its top three
-  -- bits)." "Document 01's size rule becomes '1 to 8', refusal 6 means a size above 8 or a first octet of zero where there are several, and 9
-  -- means a single zero octet.", "a missing address octet is 4" between the size and the zeros; the second octet is 128, 100sssss, and the size
-  -- less one
-  pub aHeaderBack : (p : List ℕ)
-      → GivenExactly (
-      4 when length p ≤ 0
-      otherwise 5 when (getD p 0 0 ≡ 0xF1 → ⊥)
-      otherwise 4 when length p ≤ 1
-      otherwise 5 when ((getD p 1 0 < 128) ⊎ (160 ≤ getD p 1 0))
-      otherwise 4 when length p ≤ 2
-      otherwise 5 when (getD p 2 0 ≡ 15 → ⊥)
-      otherwise 6 when 8 < getD p 1 0 - 128 + 1
-      otherwise 4 when length p < 3 + (getD p 1 0 - 128 + 1)
-      otherwise 9 when ((getD p 1 0 - 128 + 1 ≡ 1) × (getD p 3 0 ≡ 0))
-      otherwise 6 when ((1 < getD p 1 0 - 128 + 1) × (getD p 3 0 ≡ 0))
-      otherwise done
-      ) (reading p .refusal)
+  pub aHeaderBack : (p : List ℕ) → GivenExactly (headerOrder p) (reading p .refusal)
   -- "For IPv6 out 12, 9, 10.": "a prefix isn't 8" octets
   pub aFormOut : (prefix : List ℕ) (a : ℕ) (buffer : List ℕ)
       → GivenExactly (

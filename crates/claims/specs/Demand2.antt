@@ -1,46 +1,57 @@
 -- Demand 2: "Every address we write as a header or as IPv6 reads back as itself, and every header or IPv6 form we accept is the one we would have
 -- written."
-use Prim.Native.Nat.{ℕ, _+_, _*_, _^_, _≤_, _<_}
+use Prim.Native.Nat.{ℕ, _+_, _*_, _-_, _^_, _≤_, _<_}
 use mathlib.Core.Path.{_≡_}
 use mathlib.Core.Logic.{_↔_}
 use mathlib.Core.Bool.{true}
-use mathlib.Core.List.{List, _∷_, _++_}
+use mathlib.Core.List.{List, [], _∷_, _++_}
 use lib.ListN.{length, take, drop}
 use Rattle.address.specs.Numbers.{IsAddress}
 use Rattle.address.specs.Address.{validAddress}
 use Rattle.octets.specs.Octets.{AreOctets, octets, value, same, wrote}
-use Rattle.header.specs.Header.{size, sizeAllowed, place, header, writing, reading, found}
-use Rattle.header.specs.Refusals.{AcceptedHeader}
+use Rattle.header.specs.Header.{size, place, header, writing, reading, found}
 use Rattle.ipv6.specs.Form.{formWriting, formReading}
 use Rattle.ipv6.specs.Refusals.{AcceptedForm}
 
 pub record Headers : Type 0 where
-  -- in every buffer that has room the header is written
-  pub written : (a : ℕ) (buffer : List ℕ) → IsAddress a → place a ≤ length buffer → writing a buffer .answer ≡ wrote (place a)
+  -- "octet 0xF1 ..; octet 100sssss, where sssss is the number of address octets less one ..; octet 15 as the type ..; the address, most
+  -- significant octet first": a header's octets
+  pub laid : (a : ℕ) → header a ≡ 0xF1 ∷ (128 + (size a - 1)) ∷ 15 ∷ octets (size a) a
+  -- "Now the address takes the fewest octets, 1 to 8." (document 02, Three)
+  pub takes : (a : ℕ) → (place a ≡ 3 + size a) × (length (header a) ≡ 3 + size a)
+  pub oneToEight : (a : ℕ) → IsAddress a → (1 ≤ size a) × (size a ≤ 8)
+  pub holds : (a : ℕ) → IsAddress a → a < 256 ^ size a
+  pub fewest : (a s : ℕ) → IsAddress a → a < 256 ^ s → size a ≤ s
+  -- what an answer without a refusal is
+  pub answersWritten : (n : ℕ) → wrote n ≡ record { refusal = 0; count = n }
+  pub answersFound : (a k : ℕ) → found a k ≡ record { refusal = 0; address = a; place = k }
+  -- in every buffer that has room the header is written, and nothing else
+  pub written : (a : ℕ) (buffer : List ℕ) → IsAddress a → place a ≤ length buffer
+      → (writing a buffer .answer ≡ wrote (place a)) × (writing a buffer .buffer ≡ header a ++ drop (place a) buffer)
   -- in every buffer, with any payload behind it: wherever the writer is done, with n octets, what stands there reads as the address at place n
   pub readsBack : (a : ℕ) (buffer payload : List ℕ) (n : ℕ) → a < 2 ^ 64 → writing a buffer .answer ≡ wrote n
       → reading (writing a buffer .buffer ++ payload) ≡ found a n
   -- and behind n the buffer is as it was
   pub sparesTheRest : (a : ℕ) (buffer : List ℕ) (n : ℕ) → a < 2 ^ 64 → writing a buffer .answer ≡ wrote n
       → drop n (writing a buffer .buffer) ≡ drop n buffer
-  -- whatever octets read as an address are, up to the place, those that we write into any buffer that holds them
+  -- whatever octets read as an address do read as one, with the place within them, and are, up to the place, those that we write into any
+  -- buffer that has room for them
   pub acceptsAddresses : (p : List ℕ) (a k : ℕ) → AreOctets p → reading p ≡ found a k → IsAddress a × (k ≤ length p)
   pub acceptsTheWritten : (p : List ℕ) (a k : ℕ) → AreOctets p → reading p ≡ found a k → (buffer : List ℕ) → k ≤ length buffer
       → (writing a buffer .answer ≡ wrote k) × (take k (writing a buffer .buffer) ≡ take k p)
-  -- "octet 0xF1 ..; octet 100sssss, where sssss is the number of address octets less one ..; octet 15 as the type ..; the address, most
-  -- significant octet first; the payload": whatever is accepted is laid out so, and the place is behind the address
-  pub acceptsSo : (p : List ℕ) → reading p .refusal ≡ 0 → AcceptedHeader p (reading p .address) (reading p .place)
-  -- "Now the address takes the fewest octets, 1 to 8."
-  pub takes : (a : ℕ) → (place a ≡ 3 + size a) × (length (header a) ≡ 3 + size a)
-  pub oneToEight : (a : ℕ) → IsAddress a → (1 ≤ size a) × (size a ≤ 8)
-  pub holds : (a : ℕ) → IsAddress a → a < 256 ^ size a
-  pub fewest : (a s : ℕ) → IsAddress a → a < 256 ^ s → size a ≤ s
-  -- the test for a size; the second octet can say none below 1
-  pub sizes : (s : ℕ) → (sizeAllowed s ≡ true) ↔ (s ≤ 8)
+  -- whatever is accepted is laid out as a header, with any payload behind it: the address is the number of its octets, 1 to 8 of them, and the
+  -- place is behind them
+  pub acceptsSo : (p : List ℕ) → reading p .refusal ≡ 0
+      → (os : List ℕ) × (payload : List ℕ) × (p ≡ 0xF1 ∷ (128 + (length os - 1)) ∷ 15 ∷ (os ++ payload))
+      × ((1 ≤ length os) × (length os ≤ 8) × (reading p .address ≡ value os) × (reading p .place ≡ 3 + length os))
   -- "most significant octet first"
   pub mostSignificantFirst : (o : ℕ) (os : List ℕ) → value (o ∷ os) ≡ o * 256 ^ length os + value os
-  -- octets give their number back, and numbers their octets
-  pub octetsHold : (k n : ℕ) → n < 256 ^ k → value (octets k n) ≡ n
+  pub valueOfNone : value [] ≡ 0
+  -- octets are numbers below 256
+  pub noOctet : AreOctets []
+  pub anOctetMore : (o : ℕ) (os : List ℕ) → AreOctets (o ∷ os) ↔ ((o < 256) × AreOctets os)
+  -- k octets give their number back, and numbers their octets
+  pub octetsHold : (k n : ℕ) → n < 256 ^ k → AreOctets (octets k n) × (length (octets k n) ≡ k) × (value (octets k n) ≡ n)
   pub octetsShown : (os : List ℕ) → AreOctets os → octets (length os) (value os) ≡ os
   -- the test for the same octets
   pub sameOctets : (xs ys : List ℕ) → (same xs ys ≡ true) ↔ (xs ≡ ys)

@@ -1,11 +1,12 @@
--- The known values of document 01 that are marked P, and the wrong rules that it names, and some more: each is refuted through the claim that
--- excludes it.
+-- The known values of document 01 that are marked P, two of them as document 02 (Three) has them; and the wrong rules that it names, and some more,
+-- each refuted through the claim that excludes it.
 use mathlib.Core.Path.{_≡_}
 use Prim.Native.Nat.{ℕ}
 use mathlib.Core.List.{List}
 use lib.ListN.{length}
 use Rattle.header.specs.Header.{writing, reading}
-use Rattle.header.specs.RoundTrip.{HeaderReader, HeaderRoundTrip}
+use Rattle.header.specs.RoundTrip.{HeaderWriter, HeaderReader, HeaderRoundTrip}
+use Rattle.header.specs.Refusals.{HeaderWriteRefusals, HeaderReadRefusals}
 use Rattle.header.specs.WrongWriters.{silentWriter, refusingWriter, roomlessWriter, spoilingWriter, paddingWriter}
 use Rattle.header.specs.WrongReaders.{surplusReader}
 use Rattle.ipv6.specs.Form.{formWriting, formReading}
@@ -42,6 +43,8 @@ pub record HoldOfOurs : Type 0 where
   pub demand1Child : ChildRefusals childOf
   pub demand1Hop : HopRefusals nextHop
   pub demand1Packet : PacketRefusals packetHop
+  pub demand1Writer : HeaderWriteRefusals writing
+  pub demand1Reader : HeaderReadRefusals reading
   pub demand1Plan : PlanRefusals planning
   pub demand2Header : HeaderRoundTrip writing reading
   pub demand2Form : FormRoundTrip formWriting formReading
@@ -90,6 +93,11 @@ pub record WrongChildren : Type 0 where
   pub shortOfTheLimit : ChildRefusals shortOfLimit → ⊥
   pub withAnAddressBeside : ChildRefusals addressBeside → ⊥
 
+-- demand 1 of a header leaves one writer and one reader, so that whatever answers or writes otherwise anywhere is excluded
+pub record OneHeaderRule : Type 0 where
+  pub toWrite : (writer : HeaderWriter) → HeaderWriteRefusals writer → (a : ℕ) (buffer : List ℕ) → writer a buffer ≡ writing a buffer
+  pub toRead : (reader : HeaderReader) → HeaderReadRefusals reader → (p : List ℕ) → reader p ≡ reading p
+
 -- demand 1 of a plan leaves one rule, so that whatever answers otherwise anywhere is excluded
 pub record OnePlanRule : Type 0 where
   pub ours : (rule : PlanRule) → PlanRefusals rule → (text words : List ℕ) → rule text words ≡ planning text words
@@ -122,9 +130,9 @@ pub record WrongWritersAndReaders : Type 0 where
   -- one that says done without room; one that spoils what stands behind
   pub withoutRoom : HeaderRoundTrip roomlessWriter reading → ⊥
   pub spoiling : HeaderRoundTrip spoilingWriter reading → ⊥
-  -- "One octet is enough": one that writes two where it is, whatever reads them; a reader that takes two
+  -- "One octet is enough." (document 02, Three): one that writes two where it is, whatever reads them; a reader that takes two
   pub padding : (reader : HeaderReader) → HeaderRoundTrip paddingWriter reader → ⊥
-  pub longerForm : HeaderRoundTrip writing surplusReader → ⊥
+  pub surplus : HeaderRoundTrip writing surplusReader → ⊥
   pub silentForm : FormRoundTrip silentFormWriter formReading → ⊥
   pub refusingForm : FormRoundTrip refusingFormWriter formReading → ⊥
   -- one that says done with a prefix of 7 octets

@@ -2,7 +2,6 @@
 -- no zero in front (`reading-header`); and octets that are read were checked octet by octet for what a header has (`header-read`). Assumes
 -- nothing.
 use mathlib.Core.Path.{_≡_, refl, sym, ap, ap₂, _∙_, subst}
-use mathlib.Core.Bool.{true}
 use mathlib.Core.List.{List, _∷_, _++_, append-assoc}
 use mathlib.Core.Logic.{inl, inr}
 use Prim.Native.Nat.{ℕ, _+_, _-_, _*_, _/_, _%_, _^_, _≤_, _<_}
@@ -18,9 +17,9 @@ use Rattle.address.specs.Bits.{longest}
 use Rattle.address.specs.Numbers.{IsAddress}
 use Rattle.octets.specs.Octets.{octets, value, AreOctets, WriteEffect, write, wrote}
 use Rattle.octets.proofs.OctetLaws.{length-octets, value-octets-of-lt, octets-octets, octets-value, value-lt, value-fits}
-use Rattle.header.specs.Header.{header, place, size, fixedOctets, pageOctet, criticalPattern, routingType, sizeAllowed, writing, reading, found, startFault, inOrder, sizeTold, addressFault, zeroFault, addressOctets}
+use Rattle.header.specs.Header.{header, place, size, fixedOctets, pageOctet, criticalPattern, routingType, mostOctets, writing, reading, found, startFault, inOrder, sizeTold, addressFault, zeroFault, addressOctets}
 use Rattle.header.specs.RoundTrip.{HeaderRoundTrip}
-use Rattle.header.proofs.Size.{size-le, size-ge, size-exact, size-least, sizeAllowed-le, le-sizeAllowed, fewest-octets}
+use Rattle.header.proofs.Size.{size-le, size-ge, size-exact, size-least, fewest-octets}
 use Rattle.header.proofs.Start.{startFault-zero}
 use Rattle.header.proofs.Parts.{length-addressOctets, octets-addressOctets, first-addressOctets, lt-of-first, ge-of-first, zeroFault-some, zeroFault-zero, addressFault-zero}
 use Rattle.header.proofs.Cases.{reading-found, reading-inverse}
@@ -65,7 +64,7 @@ module _ {a : ℕ} (n : IsAddress a) (rest : List ℕ) where
   unfolding addressFault place
   header-fault =
       let long : fixedOctets + size a ≤ length (header a ++ rest) = omega (arith, length-append (header a) rest, length-header a) in
-      rw (le-sizeAllowed (size-le (n .fits)), le-ltb (length (header a ++ rest)) (fixedOctets + size a) long)
+      rw (le-ltb mostOctets (size a) (size-le (n .fits)), le-ltb (length (header a ++ rest)) (fixedOctets + size a) long)
       (zeroFault-some (size a) (getD (header a ++ rest) fixedOctets 0) header-first)
 
   pub reading-header : reading (header a ++ rest) ≡ found a (place a)
@@ -87,7 +86,7 @@ module _ (p : List ℕ) (all : AreOctets p) (begun : startFault p ≡ 0) (whole 
   unfolding s
   os = addressOctets s p
 
-  right : (sizeAllowed s ≡ true) × (fixedOctets + s ≤ length p) × (zeroFault s (getD p fixedOctets 0) ≡ 0)
+  right : (s ≤ mostOctets) × (fixedOctets + s ≤ length p) × (zeroFault s (getD p fixedOctets 0) ≡ 0)
   unfolding s
   right = addressFault-zero s p whole
 
@@ -112,7 +111,7 @@ module _ (p : List ℕ) (all : AreOctets p) (begun : startFault p ≡ 0) (whole 
   address-read : IsAddress (value os)
   address-read = record {
     some = lt-of-lt-of-le (one-le-pow (s - 1) 256 (lit< tt)) least;
-    fits = value-fits os are (omega (arith, many, sizeAllowed-le (right .0)));
+    fits = value-fits os are (omega (arith, many, right .0));
   }
 
   size-read : size (value os) ≡ s
@@ -148,7 +147,7 @@ not-zero : {a : ℕ} → IsAddress a → a ≡ 0 → ⊥
 not-zero n e = omega (arith, n .some)
 
 -- what is written where there is room
-wrote-header : (a : ℕ) (buffer : List ℕ) → IsAddress a → place a ≤ length buffer
+pub wrote-header : (a : ℕ) (buffer : List ℕ) → IsAddress a → place a ≤ length buffer
     → (writing a buffer .answer ≡ wrote (place a)) × (writing a buffer .buffer ≡ header a ++ drop (place a) buffer)
 unfolding write
 wrote-header a buffer n h =

@@ -5,6 +5,7 @@ pub mod Parts
 pub mod Cases
 pub mod Writing
 pub mod RefusalLaws
+pub mod OneRule
 pub mod Demand2
 pub mod WrongWriters
 pub mod WrongReaders

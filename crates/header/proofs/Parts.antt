@@ -1,13 +1,12 @@
 -- The part of a packet that holds the address: as the code cuts it, how long it is, its first octet, and what follows where it has no fault.
 -- Assumes nothing.
 use mathlib.Core.Path.{_≡_, refl, sym, ap, _∙_}
-use mathlib.Core.Bool.{true, not}
 use mathlib.Core.List.{List, [], _∷_}
 use Prim.Native.Nat.{ℕ, _+_, _-_, _^_, _≤_, _<_}
 use native.Mathlib.Decide.{ℕ-discrete}
 use native.Mathlib.Omega.{arith}
 use native.Mathlib.Nat.{add-sub-cancel-left}
-use borrow.Author.Tests.{eq-eqb, ne-eqb, lt-leb, lt-ltb, le-ltb, not-false, ltb-false}
+use borrow.Author.Tests.{eq-eqb, ne-eqb, lt-ltb, le-ltb, ltb-false}
 use lib.Dec.{ltb}
 use lib.ListN.{length, take, drop, getD, length-take, length-drop}
 use lib.Seq.{getD-take, getD-drop}
@@ -15,8 +14,7 @@ use Rattle.address.specs.Choice.{if_then_else_}
 use Rattle.octets.specs.Octets.{AreOctets, value, joined}
 use Rattle.address.proofs.ChoiceLaws.{if-zero}
 use Rattle.octets.proofs.OctetLaws.{take-octets, drop-octets, value-lt-of-zeros, value-ge-of-zeros}
-use Rattle.header.specs.Header.{addressOctets, addressFault, zeroFault, sizeAllowed, mostOctets, fixedOctets}
-use Rattle.header.proofs.Size.{le-sizeAllowed}
+use Rattle.header.specs.Header.{addressOctets, addressFault, zeroFault, mostOctets, fixedOctets}
 
 pub length-addressOctets : (s : ℕ) (p : List ℕ) → fixedOctets + s ≤ length p → length (addressOctets s p) ≡ s
 unfolding addressOctets
@@ -74,22 +72,22 @@ module _ (s first : ℕ) where
 
 module _ (s : ℕ) (p : List ℕ) where
   pub addressFault-size : mostOctets < s → addressFault s p ≡ 6
-  unfolding addressFault sizeAllowed
-  addressFault-size h = rw (lt-leb s mostOctets h)
+  unfolding addressFault
+  addressFault-size h = rw (lt-ltb mostOctets s h)
 
   pub addressFault-short : s ≤ mostOctets → length p < fixedOctets + s → addressFault s p ≡ 4
   unfolding addressFault
-  addressFault-short h l = rw (le-sizeAllowed h, lt-ltb (length p) (fixedOctets + s) l)
+  addressFault-short h l = rw (le-ltb mostOctets s h, lt-ltb (length p) (fixedOctets + s) l)
 
   pub addressFault-long : s ≤ mostOctets → fixedOctets + s ≤ length p → addressFault s p ≡ zeroFault s (getD p fixedOctets 0)
   unfolding addressFault
-  addressFault-long h l = rw (le-sizeAllowed h, le-ltb (length p) (fixedOctets + s) l)
+  addressFault-long h l = rw (le-ltb mostOctets s h, le-ltb (length p) (fixedOctets + s) l)
 
 -- no fault: the size is allowed, the octets are there, and the first of them has none
 pub addressFault-zero : (s : ℕ) (p : List ℕ) → addressFault s p ≡ 0
-    → (sizeAllowed s ≡ true) × (fixedOctets + s ≤ length p) × (zeroFault s (getD p fixedOctets 0) ≡ 0)
+    → (s ≤ mostOctets) × (fixedOctets + s ≤ length p) × (zeroFault s (getD p fixedOctets 0) ≡ 0)
 unfolding addressFault
 addressFault-zero s p e =
-    let first = if-zero (not (sizeAllowed s)) 5 _ e in
+    let first = if-zero (ltb mostOctets s) 5 _ e in
     let second = if-zero (ltb (length p) (fixedOctets + s)) 3 _ (first .1) in
-    (not-false (sizeAllowed s) (first .0), ltb-false (length p) (fixedOctets + s) (second .0), second .1)
+    (ltb-false mostOctets s (first .0), ltb-false (length p) (fixedOctets + s) (second .0), second .1)

@@ -18,7 +18,6 @@ use Rattle.address.proofs.Decided.{decided, one-of, holds}
 use Rattle.octets.proofs.LentLaws.{refusal-refuseWriting, refusal-write, Outcome, outcome-leaves, outcome-writes}
 use Rattle.header.specs.Header.{mostOctets, header, place, writing, HeaderAnswer, reading, refusedHeader, found, fixedOctets, pageOctet, criticalPattern, routingType, inOrder, startFault, isPageOctet, hasCriticalPattern, isRoutingType, sizeTold, addressOctets, addressFault}
 use Rattle.header.specs.Refusals.{writingOrder, HeaderWriteRefusals, octetAt, OtherTopBits, sizeSaid, sizedOrder, readingOrder, AcceptedHeader, HeaderReadRefusals}
-use Rattle.header.proofs.Size.{sizeAllowed-le}
 use Rattle.header.proofs.Start.{inOrder-absent, inOrder-wrong, inOrder-right, startFault-page, startFault-critical, startFault-zero}
 use Rattle.header.proofs.Parts.{length-addressOctets, zeroFault-some, zeroFault-single, zeroFault-several, addressFault-size, addressFault-short, addressFault-long, addressFault-zero}
 use Rattle.header.proofs.Cases.{reading-start, reading-address, reading-found, reading-cases, reading-inverse}
@@ -43,7 +42,7 @@ first-writing a buffer =
     (λ h. refusal-refuseWriting 10 buffer (writing-short a buffer some (omega (arith, length-header a)))) λ h.
     refusal-write (header a) buffer (writing-done a buffer some (omega (arith, length-header a)))
 
-pub header-write-refusals : HeaderWriteRefusals
+pub header-write-refusals : HeaderWriteRefusals writing
 header-write-refusals = record {
   given = λ a buffer. given-exactly (writingOrder a buffer) (first-writing a buffer);
   beside = λ a buffer. outcome-leaves (header a) buffer (writing a buffer) (writing-outcome a buffer);
@@ -66,7 +65,7 @@ top-right p n =
 
 first-sized : (s : ℕ) (p : List ℕ) → 0 < s → First (sizedOrder s p) (addressFault s p)
 first-sized s p some =
-    decided (decLt 8 s) (λ large. addressFault-size s p large) λ small.
+    decided (decLt 8 s) (λ large. addressFault-size s p (omega arith)) λ small.
     let allowed : s ≤ mostOctets = omega arith in
     decided (decLt (length p) (fixedOctets + s)) (λ short. addressFault-short s p allowed short) λ long.
     let fault = addressFault-long s p allowed (omega arith) in
@@ -128,12 +127,12 @@ accepted p e =
       os = os;
       payload = drop s (drop fixedOctets p);
       laid = q ∙ ap₂ (λ (x : ℕ) (l : List ℕ). 0xF1 ∷ x ∷ 15 ∷ l) second behind;
-      sized = (omega arith, omega (arith, sizeAllowed-le (right .0)));
+      sized = (omega arith, omega (arith, right .0));
       number = sym number;
       behind = sym end ∙ ap (λ (k : ℕ). fixedOctets + k) (sym many);
     }
 
-pub header-read-refusals : HeaderReadRefusals
+pub header-read-refusals : HeaderReadRefusals reading
 header-read-refusals = record {
   given = λ p. given-exactly (readingOrder p) (first-reading p);
   beside = λ p. beside p (reading-cases p);

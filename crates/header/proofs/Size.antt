@@ -1,18 +1,16 @@
 -- How many octets an address takes. A bound on a number by octets is one on its bit length (`lt-octets`, `octets-le`), and `size` rounds
 -- the bit length up to whole octets, so the fewest that hold the number are those. Assumes nothing.
 use mathlib.Core.Path.{_≡_, refl, sym, ap, _∙_, subst}
-use mathlib.Core.Bool.{true}
 use Prim.Native.Nat.{ℕ, zero, suc, _*_, _-_, _^_, _≤_, _<_}
 use native.Mathlib.Nat.{pow-suc, mul-suc, lt-of-not-le, not-le-of-lt, lt-of-le-of-lt, lt-of-lt-of-le, le-trans}
 use native.Mathlib.Omega.{arith}
-use borrow.Author.Tests.{le-leb, leb-true}
 use lib.Pow.{pow-add, pow-mono}
 use Rattle.address.specs.Bits.{longest}
 use Rattle.address.specs.Address.{bitLength}
 use Rattle.address.specs.Numbers.{IsAddress}
 use Rattle.address.proofs.Numbers.{bitLength-le, bitLength-pos, lt-bitLength, ge-bitLength}
-use Rattle.header.specs.Header.{size, sizeAllowed, mostOctets}
-use Rattle.header.specs.Fewest.{FewestOctets, SizeExactly}
+use Rattle.header.specs.Header.{size}
+use Rattle.header.specs.Fewest.{FewestOctets}
 
 octets-pow : (s : ℕ) → 256 ^ s ≡ 2 ^ (8 * s)
 octets-pow zero = refl
@@ -37,24 +35,13 @@ lt-octets {a} s n h = subst (λ (p : ℕ). a < p) (sym (octets-pow s)) (lt-of-lt
 octets-le : {a : ℕ} (s : ℕ) → IsAddress a → 8 * s < bitLength a → 256 ^ s ≤ a
 octets-le {a} s n h = subst (λ (p : ℕ). p ≤ a) (sym (octets-pow s)) (le-trans (pow-mono (omega arith)) (ge-bitLength n))
 
-pub size-le : {a : ℕ} → a < 2 ^ longest → size a ≤ mostOctets
+pub size-le : {a : ℕ} → a < 2 ^ longest → size a ≤ 8
 unfolding size
 size-le h = omega (arith, bitLength-le h)
 
 pub size-ge : {a : ℕ} → IsAddress a → 1 ≤ size a
 unfolding size
 size-ge n = omega (arith, bitLength-pos n)
-
-pub sizeAllowed-le : {s : ℕ} → sizeAllowed s ≡ true → s ≤ mostOctets
-unfolding sizeAllowed
-sizeAllowed-le {s} h = leb-true s mostOctets h
-
-pub le-sizeAllowed : {s : ℕ} → s ≤ mostOctets → sizeAllowed s ≡ true
-unfolding sizeAllowed
-le-sizeAllowed {s} h = le-leb s mostOctets h
-
-pub size-exactly : SizeExactly
-size-exactly s = (sizeAllowed-le, le-sizeAllowed)
 
 pub fewest-octets : FewestOctets
 unfolding size

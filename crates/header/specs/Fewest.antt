@@ -1,10 +1,7 @@
--- "Now the address takes the fewest octets, 1 to 8."
+-- "Now the address takes the fewest octets, 1 to 8." (document 02, Three)
 use Prim.Native.Nat.{ℕ, _^_, _<_, _≤_}
-use mathlib.Core.Path.{_≡_}
-use mathlib.Core.Bool.{true}
-use mathlib.Core.Logic.{_↔_}
 use Rattle.address.specs.Numbers.{IsAddress}
-use Rattle.header.specs.Header.{size, IsSize, sizeAllowed}
+use Rattle.header.specs.Header.{size, IsSize}
 
 pub record IsFewest (a : ℕ) : Type 0 where
   pub allowed : IsSize (size a)
@@ -13,7 +10,3 @@ pub record IsFewest (a : ℕ) : Type 0 where
 
 abbrev pub FewestOctets : Type 0
 FewestOctets = (a : ℕ) → IsAddress a → IsFewest a
-
--- the test is right about every size; the second octet tells none below 1
-abbrev pub SizeExactly : Type 0
-SizeExactly = (s : ℕ) → (sizeAllowed s ≡ true) ↔ (s ≤ 8)

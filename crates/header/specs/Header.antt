@@ -5,7 +5,7 @@ use Prim.Native.Nat.{ℕ, _+_, _*_, _-_, _/_, _%_, _≤_}
 use mathlib.Core.Bool.{Bool, not}
 use mathlib.Core.List.{List, [], _∷_}
 use lib.ListN.{length, take, drop, getD}
-use lib.Dec.{eqb, ltb, leb}
+use lib.Dec.{eqb, ltb}
 use Rattle.address.specs.Choice.{if_then_else_}
 use Rattle.address.specs.Address.{bitLength}
 use Rattle.octets.specs.Octets.{octets, value, WriteEffect, refuseWriting, write}
@@ -14,21 +14,18 @@ pub use Rattle.header.specs.declared.Reading.the-variants.{Found, Refuse
 
 -- ---- how many octets an address takes
 
--- the most octets that an address takes
-abbrev pub mostOctets : ℕ
-mostOctets = 8
-
--- "Now the address takes the fewest octets": the bit length, rounded up to whole octets. specs/Fewest.antt says that these are the fewest.
+-- "Now the address takes the fewest octets, 1 to 8." (document 02, Three): the bit length, rounded up to whole octets. specs/Fewest.antt says
+-- that these are the fewest.
 unfoldable pub size : ℕ → ℕ
 size a = (bitLength a + 7) / 8
 
--- "1 to 8"
+-- "Document 01's size rule becomes '1 to 8'"
 abbrev pub IsSize : ℕ → Type 0
 IsSize s = (1 ≤ s) × (s ≤ 8)
 
--- the test for it: the second octet tells no size below 1
-unfoldable pub sizeAllowed : ℕ → Bool
-sizeAllowed s = leb s mostOctets
+-- the most octets that an address takes
+abbrev pub mostOctets : ℕ
+mostOctets = 8
 
 -- ---- writing
 
@@ -109,18 +106,18 @@ sizeTold p = getD p 1 0 % 32 + 1
 unfoldable pub addressOctets : ℕ → List ℕ → List ℕ
 addressOctets s p = take s (drop fixedOctets p)
 
--- "6 means .. a first octet of zero where there are several, and 9 means a single zero octet": of an address in s octets, by the first of
--- them; 0 where neither is
+-- "refusal 6 means .. a first octet of zero where there are several, and 9 means a single zero octet": of an address in s octets, by the first
+-- of them; 0 where neither is
 unfoldable pub zeroFault : ℕ → ℕ → ℕ
 zeroFault s first =
     if not (eqb first 0) then 0
     else if eqb s 1 then 9
     else 6
 
--- "6 means a size above 8 ..": then "a missing address octet is 4", and then `zeroFault`
+-- "refusal 6 means a size above 8 .."; no size below 1 is told. "Then a missing address octet is 4.", and then `zeroFault`
 unfoldable pub addressFault : ℕ → List ℕ → ℕ
 addressFault s p =
-    if not (sizeAllowed s) then 6
+    if ltb mostOctets s then 6
     else if ltb (length p) (fixedOctets + s) then 4
     else zeroFault s (getD p fixedOctets 0)
 

@@ -1,5 +1,6 @@
--- Demand 1 for the header: each refusal is "given exactly when that document says", in the document's order. The conditions are the
--- document's words about addresses, buffers and octets, apart from the tests that `writing` and `reading` run.
+-- Demand 1 for the header: each refusal is "given exactly when that document says", in the document's order, as document 02 (Three) amends it. The
+-- conditions are the documents' words about addresses, buffers and octets, apart from the tests that `writing` and `reading` run. The statements
+-- are of any writer and any reader, so that a wrong one can be refuted by them.
 use mathlib.Core.Path.{_≡_}
 use mathlib.Core.Logic.{_⊎_}
 use mathlib.Core.List.{List, _∷_, _++_}
@@ -8,7 +9,8 @@ use lib.ListN.{length, getD}
 use Rattle.address.specs.Order.{Order, done, _when_otherwise_, GivenExactly}
 use Rattle.octets.specs.Octets.{value}
 use Rattle.octets.specs.Lent.{RefusalLeaves, SuccessWrites}
-use Rattle.header.specs.Header.{IsSize, header, writing, reading}
+use Rattle.header.specs.Header.{IsSize, header}
+use Rattle.header.specs.RoundTrip.{HeaderWriter, HeaderReader}
 
 -- ---- writing
 
@@ -21,14 +23,14 @@ writingOrder a buffer =
     otherwise 10 when length buffer < length (header a)
     otherwise done
 
-pub record HeaderWriteRefusals : Type 0 where
-  pub given : (a : ℕ) (buffer : List ℕ) → GivenExactly (writingOrder a buffer) (writing a buffer .answer .refusal)
-  pub beside : (a : ℕ) (buffer : List ℕ) → RefusalLeaves buffer (writing a buffer)
-  pub without : (a : ℕ) (buffer : List ℕ) → SuccessWrites (header a) buffer (writing a buffer)
+pub record HeaderWriteRefusals (writer : HeaderWriter) : Type 0 where
+  pub given : (a : ℕ) (buffer : List ℕ) → GivenExactly (writingOrder a buffer) (writer a buffer .answer .refusal)
+  pub beside : (a : ℕ) (buffer : List ℕ) → RefusalLeaves buffer (writer a buffer)
+  pub without : (a : ℕ) (buffer : List ℕ) → SuccessWrites (header a) buffer (writer a buffer)
 
 -- ---- reading
 
--- an octet of the packet, by its place from 0
+-- an octet of the packet, counted from 0; where it is absent, 0
 abbrev pub octetAt : ℕ → List ℕ → ℕ
 octetAt i p = getD p i 0
 
@@ -43,8 +45,8 @@ OtherTopBits o = (o < 0b10000000) ⊎ (0b10100000 ≤ o)
 abbrev pub sizeSaid : List ℕ → ℕ
 sizeSaid p = octetAt 1 p - 0b10000000 + 1
 
--- behind the first three octets, where s address octets are said: "Document 01's size rule becomes '1 to 8', refusal 6 means a size above 8 or
--- a first octet of zero where there are several, and 9 means a single zero octet."
+-- behind the first three octets, where s address octets are said: document 01's order, and from document 02 (Three) "Document 01's size rule becomes
+-- '1 to 8', refusal 6 means a size above 8 or a first octet of zero where there are several, and 9 means a single zero octet."
 abbrev pub sizedOrder : ℕ → List ℕ → Order
 sizedOrder s p =
     -- "a size above 8"
@@ -78,8 +80,8 @@ pub record AcceptedHeader (p : List ℕ) (address place : ℕ) : Type 0 where
   pub number : address ≡ value os
   pub behind : place ≡ 3 + length os
 
-pub record HeaderReadRefusals : Type 0 where
-  pub given : (p : List ℕ) → GivenExactly (readingOrder p) (reading p .refusal)
+pub record HeaderReadRefusals (reader : HeaderReader) : Type 0 where
+  pub given : (p : List ℕ) → GivenExactly (readingOrder p) (reader p .refusal)
   -- "With any refusal the address, place, .. and every other number returned beside its own are 0"
-  pub beside : (p : List ℕ) → (reading p .refusal ≡ 0 → ⊥) → (reading p .address ≡ 0) × (reading p .place ≡ 0)
-  pub without : (p : List ℕ) → reading p .refusal ≡ 0 → AcceptedHeader p (reading p .address) (reading p .place)
+  pub beside : (p : List ℕ) → (reader p .refusal ≡ 0 → ⊥) → (reader p .address ≡ 0) × (reader p .place ≡ 0)
+  pub without : (p : List ℕ) → reader p .refusal ≡ 0 → AcceptedHeader p (reader p .address) (reader p .place)

@@ -17,16 +17,16 @@ abbrev pub HeaderReader : Type 0
 HeaderReader = List ℕ → HeaderAnswer
 
 pub record HeaderRoundTrip (writer : HeaderWriter) (reader : HeaderReader) : Type 0 where
-  -- in every buffer that has room the address is written, and the buffer reads as the address; what stood behind is the payload
+  -- in every buffer that has room the address is written in the fewest octets, and the buffer reads as the address
   pub readsBack : (a : ℕ) (buffer : List ℕ) → IsAddress a → place a ≤ length buffer
       → (writer a buffer .answer ≡ wrote (place a)) × (reader (writer a buffer .buffer) ≡ found a (place a))
   -- in EVERY buffer, with every payload behind it: where the writer answers n without a refusal, the buffer as it then stands reads as the
-  -- address at place n, and behind n it is as it was: "On success only the words or octets named are written."
+  -- address at place n, behind n it is as it was, and it is as long: "On success only the words or octets named are written."
   pub whereDone : (a : ℕ) (buffer payload : List ℕ) (n : ℕ) → a < 2 ^ longest → writer a buffer .answer ≡ wrote n
       → (reader (writer a buffer .buffer ++ payload) ≡ found a n)
       × (drop n (writer a buffer .buffer) ≡ drop n buffer)
       × (length (writer a buffer .buffer) ≡ length buffer)
-  -- whatever octets read as an address are, up to the place, those that we write into any buffer that holds them
+  -- whatever octets read as an address do read as one, and are, up to the place, those that we write into any buffer that has room for them
   pub writtenSo : (p : List ℕ) (a k : ℕ) → AreOctets p → reader p ≡ found a k
       → IsAddress a × (k ≤ length p)
       × ((buffer : List ℕ) → k ≤ length buffer → (writer a buffer .answer ≡ wrote k) × (take k (writer a buffer .buffer) ≡ take k p))

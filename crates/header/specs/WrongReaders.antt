@@ -1,4 +1,4 @@
--- A wrong reader, which demand 2 must exclude.
+-- A wrong reader, which the statement of demand 2 must exclude.
 use mathlib.Core.Bool.{_&&_}
 use Prim.Native.Nat.{_+_}
 use lib.Dec.{eqb, ltb, leb}

@@ -1,4 +1,4 @@
--- Wrong writers, which demand 2 must exclude.
+-- Wrong writers, which the statement of demand 2 must exclude.
 use mathlib.Core.Bool.{_&&_}
 use mathlib.Core.List.{[], _∷_}
 use Prim.Native.Nat.{_+_}
@@ -29,7 +29,7 @@ spoilingWriter a buffer =
     if eqb (writing a buffer .answer .refusal) 0 then record { answer = wrote (place a); buffer = set (writing a buffer .buffer) (place a) 0xFF }
     else writing a buffer
 
--- it writes two octets where one is enough; right otherwise
+-- it writes two octets where one is enough and there is room for two; right otherwise
 unfoldable pub paddingWriter : HeaderWriter
 paddingWriter a buffer =
     if eqb (size a) 1 && leb (fixedOctets + 2) (length buffer) then write (0xF1 ∷ 0x81 ∷ 0x0F ∷ 0 ∷ a ∷ []) buffer

@@ -1,13 +1,13 @@
 -- "Cases marked P are proved, gathered in a single table under one claim. Each P reaches to the end of the sentence it opens." Each row is
--- computed at the definition that the function promises: `childOf`, `nextHop`, `writing`, `reading`.
+-- computed at the definition that the function promises: `childOf`, `nextHop`, `writing`, `reading`. Document 02 (Three) has new values for two
+-- of them.
 use Prim.Native.Nat.{ℕ}
 use mathlib.Core.Path.{_≡_}
-use mathlib.Core.List.{List, [], _∷_, _++_}
-use lib.ListN.{length, drop}
+use mathlib.Core.List.{List, [], _∷_}
 use Rattle.address.specs.declared.Kind.{Kind}
 use Rattle.address.specs.declared.Kind.the-variants.{Router, Host}
 use Rattle.address.specs.Bits.{root}
-use Rattle.octets.specs.Octets.{WriteEffect, write}
+use Rattle.octets.specs.Octets.{write}
 use Rattle.node.specs.Node.{addressAt, fresh, withCounts, refuseChild, childOf}
 use Rattle.node.specs.declared.Node.{Node}
 use Rattle.forward.specs.Forward.{HopAnswer, upTo, downTo, refusedHop, nextHop}
@@ -25,7 +25,7 @@ pub data Row : Type 0 where
   refuses : Node → Kind → ℕ → Row
   -- a record, a destination, and the answer
   passes : Node → ℕ → HopAnswer → Row
-  -- an address, a buffer, and the octets in front of it
+  -- an address, a buffer, and the octets that are written into its front
   writes : ℕ → List ℕ → List ℕ → Row
   -- a packet, and the refusal's number
   unread : List ℕ → ℕ → Row
@@ -61,9 +61,9 @@ table =
     ∷ passes (withCounts 2 2 (fresh root)) 0b1110 (refusedHop 7)
     -- "P node 10, counts 2,2, destination 101011: child 1010."
     ∷ passes (withCounts 2 2 (fresh 0b10)) 0b101011 (downTo 0b1010)
-    -- "P address 111110: header ..", which is now F1 80 0F 3E
+    -- "P address 111110: header ..", and of document 02 (Three) "Address 111110 is F1 80 0F 3E."
     ∷ writes 0b111110 (1 ∷ 2 ∷ 3 ∷ 4 ∷ 5 ∷ 6 ∷ []) (0xF1 ∷ 0x80 ∷ 0x0F ∷ 0x3E ∷ [])
-    -- "P header F1 81 0F 00 00", now 6. "P header F1 83 0F 00 00 00 3E: 6."
+    -- "P header F1 81 0F 00 00 ..", and of document 02 (Three) "F1 81 0F 00 3E and F1 81 0F 00 00 are now 6". "P header F1 83 0F 00 00 00 3E: 6."
     ∷ unread (0xF1 ∷ 0x81 ∷ 0x0F ∷ 0x00 ∷ 0x00 ∷ []) 6
     ∷ unread (0xF1 ∷ 0x83 ∷ 0x0F ∷ 0x00 ∷ 0x00 ∷ 0x00 ∷ 0x3E ∷ []) 6
     ∷ []

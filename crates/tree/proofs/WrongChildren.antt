@@ -11,17 +11,17 @@ use Rattle.address.specs.Bits.{bits, bitsIn, lastBit, digit, number, numberFrom
 use Rattle.address.specs.Steps.{stepBits, lastOf}
 use Rattle.address.specs.Address.{bitLength, isHost, endsInOne}
 use Rattle.address.specs.Numbers.{IsAddress}
-use Rattle.octets.specs.Octets.{octets, value, joined}
 use Rattle.search.specs.Search.{lookedAt, isPrefix, sameBit, kindLooked, indexLooked}
 use Rattle.address.specs.declared.Kind.the-variants.{Router, Host}
-use Rattle.header.specs.Header.{header, size, reading, startFault, inOrder, sizeTold, addressFault, sizeAllowed, zeroFault, addressOctets}
+use Rattle.header.specs.Header.{header}
 use Rattle.node.specs.Node.{addressAt, fresh, count, raised, isGood, childBits, refuseChild, childOf}
 use Rattle.node.specs.declared.Node.{Node}
 use Rattle.forward.specs.Forward.{nextHop, rules, toward}
 use Rattle.packet.specs.Packet.{packetHop}
+use Rattle.packet.proofs.PacketHops.{packetHop-bad, packetHop-found}
 use Rattle.tree.specs.Tree.{Request, request, Tree, givenIn, givenBy, bareRoot, standing, recordOf, replaced, withChild}
 use Rattle.tree.specs.Tree.{answered, askedOf, ask, grow, grown, addresses, InTree}
-use Rattle.tree.specs.Way.{stoppedWith, fate, deliveredAt, stoppedAt, lostAt, Way, stopped, lost, IsPacket}
+use Rattle.tree.specs.Way.{stoppedWith, passedTo, fate, deliveredAt, stoppedAt, lostAt, Way, stopped, lost, IsPacket}
 use Rattle.tree.specs.Demand3.{Demand3}
 use Rattle.tree.specs.WrongChildren.{sameChild, sharedCount, limitOnParent}
 use Rattle.tree.proofs.Trees.{inTree-recordOf}
@@ -37,12 +37,8 @@ forTrees : Unit {0}
 unfolding forBits givenIn givenBy grown grow ask askedOf answered withChild replaced recordOf bareRoot addresses fresh count raised isGood childBits refuseChild
 forTrees = tt
 
-forPackets : Unit {0}
-unfolding forBits header size octets reading startFault inOrder sizeTold addressFault sizeAllowed zeroFault addressOctets value joined
-forPackets = tt
-
 forHops : Unit {0}
-unfolding forPackets packetHop nextHop rules toward lookedAt isPrefix sameBit kindLooked indexLooked isGood count fate
+unfolding forBits nextHop rules toward lookedAt isPrefix sameBit kindLooked indexLooked isGood count fate
 forHops = tt
 
 -- a header with nothing behind it
@@ -76,9 +72,17 @@ one-count-there : InTree root (grown sharedCount routerThenHost)
 unfolding forTrees sharedCount
 one-count-there = List·Memᴰ·head refl
 
+-- the root's record with two routers counted
+abbrev twoRouters : Node
+twoRouters = record { address = addressAt root; routers = 2; hosts = 0 }
+
+fate-110 : fate (packetHop twoRouters (header 0b110)) ≡ passedTo 0b110
+unfolding forHops
+fate-110 = ap fate (packetHop-found twoRouters (header 0b110) refl (packet-110 .reads))
+
 one-count-way : Way packetHop (grown sharedCount routerThenHost) (header 0b110) root (root ∷ []) (lostAt root)
-unfolding forTrees forHops sharedCount
-one-count-way = lost {x = 0b110} {n = record { address = addressAt root; routers = 2; hosts = 0 }} refl refl one-count-absent
+unfolding forTrees sharedCount
+one-count-way = lost {x = 0b110} {n = twoRouters} refl fate-110 one-count-absent
 
 pub sharedCount-refuted : ((rs : List Request) → Demand3 sharedCount packetHop rs) → ⊥
 sharedCount-refuted h =
@@ -120,7 +124,7 @@ recordOf-hosts64 = recordOf-hosts 64 0 [] (omega arith)
 
 fate-hosts64 : fate (packetHop (rootWith 64) (header root)) ≡ stoppedWith 1
 unfolding forHops
-fate-hosts64 = refl
+fate-hosts64 = ap fate (packetHop-bad (rootWith 64) (header root) refl)
 
 packet-root : IsPacket (header root) root
 packet-root = header-alone (record { some = lit< tt; fits = lit< tt })

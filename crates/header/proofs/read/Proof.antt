@@ -7,7 +7,6 @@ use lib.ListN.{length}
 use Rattle.octets.specs.Octets.{value, AreOctets}
 use Rattle.octets.proofs.OctetLaws.{all-octets, value-mod}
 use Rattle.header.specs.Header.{headerAnswer, found, startFault, sizeTold, addressFault, addressOctets}
-use Rattle.header.proofs.Size.{sizeAllowed-le}
 use Rattle.header.proofs.Start.{startFault-length}
 use Rattle.header.proofs.Parts.{length-addressOctets, part-addressOctets, octets-addressOctets, addressFault-zero}
 use Rattle.header.proofs.Cases.{reading-start, reading-address, reading-found}
@@ -83,7 +82,7 @@ returns-3 c =
     ∙ ap (λ (os : List ℕ). value os % 2 ^ 64) (part-addressOctets (sizeTold p) p)
     ∙ value-mod (addressOctets (sizeTold p) p)
     (octets-addressOctets (sizeTold p) p (all-octets p (λ i. omega (arith, at .before .before .shared-slice-known2 .given i))))
-    (omega (arith, length-addressOctets (sizeTold p) p (right .1), sizeAllowed-le (right .0))) in
+    (omega (arith, length-addressOctets (sizeTold p) p (right .1), right .0)) in
     ap (λ (a : ℕ). found a (3 + sizeTold p)) number ∙ sym (reading-found p (start-right (at .before .before .before)) (address-right at))
 
 pub read-spec : {M : Type 1} → statement M
