@@ -24,8 +24,8 @@ use Rattle.address.proofs.KindLaws.{kinds}
 use Rattle.address.proofs.RefusalLaws.{address-refusals}
 use Rattle.address.proofs.Promises.{one-made, of-promise, of-asks-nothing, new-promise, new-asks-nothing, bit-length-promise, bit-length-asks-nothing, is-host-promise, is-host-asks-nothing, depth-promise, depth-asks-nothing, parent-promise, parent-asks-nothing}
 use Rattle.address.specs.Kinds.{IsRoot, IsRouter, IsHost}
-use Rattle.octets.specs.Octets.{value, joined, same}
-use Rattle.octets.proofs.Correspondence.{octets-one-to-one, same-exactly}
+use Rattle.octets.specs.Octets.{same}
+use Rattle.octets.proofs.Correspondence.{octets-one-to-one, value-zeros, same-exactly}
 use Rattle.octets.proofs.Promises.{put-asks-nothing, get-promise, get-asks-nothing}
 use Rattle.search.specs.Search.{childEnd, firstBits}
 use Rattle.search.proofs.Words.{search-words}
@@ -282,7 +282,7 @@ only-the-named = record {
 -- ---- demand 2
 
 pub headers : Headers
-unfolding place header value joined
+unfolding place header
 headers = record {
   laid = λ a. refl;
   answersWritten = λ n. refl;
@@ -300,7 +300,7 @@ headers = record {
   holds = λ a h. fewest-octets a h .holds;
   fewest = λ a s h. fewest-octets a h .fewest s;
   mostSignificantFirst = octets-one-to-one .mostFirst;
-  valueOfNone = refl;
+  valueOfNone = value-zeros 0;
   noOctet = tt;
   anOctetMore = λ o os. (λ h. h, λ h. h);
   octetsHold = octets-one-to-one .held;

@@ -1,6 +1,6 @@
 -- The part of a packet that holds the address: as the code cuts it, how long it is, its first octet, and what follows where it has no fault.
 -- Assumes nothing.
-use mathlib.Core.Path.{_≡_, refl, sym, ap, _∙_}
+use mathlib.Core.Path.{_≡_, sym, ap, _∙_}
 use mathlib.Core.List.{List, [], _∷_}
 use Prim.Native.Nat.{ℕ, _+_, _-_, _^_, _≤_, _<_}
 use native.Mathlib.Decide.{ℕ-discrete}
@@ -11,9 +11,10 @@ use lib.Dec.{ltb}
 use lib.ListN.{length, take, drop, getD, length-take, length-drop}
 use lib.Seq.{getD-take, getD-drop}
 use Rattle.address.specs.Choice.{if_then_else_}
-use Rattle.octets.specs.Octets.{AreOctets, value, joined}
+use Rattle.octets.specs.Octets.{AreOctets, value}
 use Rattle.address.proofs.ChoiceLaws.{if-zero}
-use Rattle.octets.proofs.OctetLaws.{take-octets, drop-octets, value-lt-of-zeros, value-ge-of-zeros}
+use Rattle.octets.proofs.Correspondence.{value-zeros}
+use Rattle.octets.proofs.OctetLaws.{value-snoc, take-octets, drop-octets, value-lt-of-zeros, value-ge-of-zeros}
 use Rattle.header.specs.Header.{addressOctets, addressFault, zeroFault, mostOctets, fixedOctets}
 
 pub length-addressOctets : (s : ℕ) (p : List ℕ) → fixedOctets + s ≤ length p → length (addressOctets s p) ≡ s
@@ -35,9 +36,8 @@ unfolding addressOctets
 first-addressOctets s p h = getD-take s (drop fixedOctets p) 0 0 h ∙ getD-drop fixedOctets p 0 0
 
 first-alone : (os : List ℕ) → value (take 1 os) ≡ getD os 0 0
-unfolding value joined
-first-alone [] = refl
-first-alone (o ∷ os) = omega arith
+first-alone [] = value-zeros 0
+first-alone (o ∷ os) = omega (arith, value-snoc [] o, value-zeros 0)
 
 -- it is zero exactly if the others hold the whole number
 module _ (os : List ℕ) (all : AreOctets os) where
