@@ -38,8 +38,8 @@ use Rattle.header.proofs.Writing.{length-header}
 use Rattle.header.proofs.Demand2.{header-round-trip, wrote-header}
 use Rattle.header.proofs.RefusalLaws.{header-write-refusals, header-read-refusals}
 use Rattle.header.proofs.OneRule.{one-writer, one-reader}
-use Rattle.header.proofs.WrongWriters.{silent-writer-refuted, refusing-writer-refuted, roomless-writer-refuted, spoiling-writer-refuted, padding-writer-refuted}
-use Rattle.header.proofs.WrongReaders.{surplus-reader-refuted}
+use Rattle.header.proofs.WrongWriters.{silent-writer-refuted, refusing-writer-refuted, roomless-writer-refuted, spoiling-writer-refuted, padding-writer-refuted, room-first-writer-refuted}
+use Rattle.header.proofs.WrongReaders.{surplus-reader-refuted, even-reader-refuted, missing-first-reader-refuted}
 use Rattle.header.proofs.Promises.{one-reading, read-promise as header-read-promise, write-asks-nothing as header-write-asks-nothing, read-asks-nothing as header-read-asks-nothing}
 use Rattle.ipv6.proofs.Demand2.{form-round-trip}
 use Rattle.ipv6.proofs.RefusalLaws.{form-write-refusals, form-read-refusals}
@@ -545,6 +545,9 @@ wrong-writers-and-readers = record {
   spoiling = spoiling-writer-refuted;
   padding = padding-writer-refuted;
   surplus = surplus-reader-refuted;
+  ofEvenSizes = even-reader-refuted;
+  withMissingFirst = missing-first-reader-refuted;
+  withRoomFirst = room-first-writer-refuted;
   silentForm = silent-form-writer-refuted;
   refusingForm = refusing-form-writer-refuted;
   shortPrefix = short-prefix-writer-refuted;

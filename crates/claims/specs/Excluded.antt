@@ -7,8 +7,8 @@ use lib.ListN.{length}
 use Rattle.header.specs.Header.{writing, reading}
 use Rattle.header.specs.RoundTrip.{HeaderWriter, HeaderReader, HeaderRoundTrip}
 use Rattle.header.specs.Refusals.{HeaderWriteRefusals, HeaderReadRefusals}
-use Rattle.header.specs.WrongWriters.{silentWriter, refusingWriter, roomlessWriter, spoilingWriter, paddingWriter}
-use Rattle.header.specs.WrongReaders.{surplusReader}
+use Rattle.header.specs.WrongWriters.{silentWriter, refusingWriter, roomlessWriter, spoilingWriter, paddingWriter, roomFirstWriter}
+use Rattle.header.specs.WrongReaders.{surplusReader, evenReader, missingFirstReader}
 use Rattle.ipv6.specs.Form.{formWriting, formReading}
 use Rattle.ipv6.specs.RoundTrip.{FormRoundTrip}
 use Rattle.ipv6.specs.WrongWriters.{silentFormWriter, refusingFormWriter, shortPrefixWriter, roomlessFormWriter, spoilingFormWriter}
@@ -133,6 +133,11 @@ pub record WrongWritersAndReaders : Type 0 where
   -- "One octet is enough." (document 02, Three): one that writes two where it is, whatever reads them; a reader that takes two
   pub padding : (reader : HeaderReader) → HeaderRoundTrip paddingWriter reader → ⊥
   pub surplus : HeaderRoundTrip writing surplusReader → ⊥
+  -- and a reader that takes an even number alone
+  pub ofEvenSizes : HeaderReadRefusals evenReader → ⊥
+  -- 4 before 6; 10 before 9
+  pub withMissingFirst : HeaderReadRefusals missingFirstReader → ⊥
+  pub withRoomFirst : HeaderWriteRefusals roomFirstWriter → ⊥
   pub silentForm : FormRoundTrip silentFormWriter formReading → ⊥
   pub refusingForm : FormRoundTrip refusingFormWriter formReading → ⊥
   -- one that says done with a prefix of 7 octets

@@ -1,4 +1,5 @@
--- A reader that takes a surplus octet is refuted by demand 2 at the header of 62 with a zero more, which is not the one that is written.
+-- A reader that takes a surplus octet is refuted by demand 2 at the header of 62 with a zero more, which is not the one that is written. One that
+-- takes an even number of octets alone is refuted by demand 1 at the header of 62, and one that has 4 before 6 at nine octets said and none there.
 -- Assumes nothing.
 use mathlib.Core.Path.{refl, ap}
 use mathlib.Core.List.{List, [], _∷_}
@@ -10,9 +11,11 @@ use Rattle.octets.specs.declared.Written.{Written}
 use Rattle.address.specs.Bits.{bits, bitsIn}
 use Rattle.address.specs.Address.{bitLength}
 use Rattle.octets.specs.Octets.{AreOctets, value, joined, octets, write}
-use Rattle.header.specs.Header.{header, place, size, writing, startFault, inOrder, sizeTold, addressOctets}
+use Rattle.header.specs.Header.{header, place, size, writing, HeaderAnswer, reading, startFault, inOrder, sizeTold, addressOctets, addressFault, zeroFault}
 use Rattle.header.specs.RoundTrip.{HeaderRoundTrip}
-use Rattle.header.specs.WrongReaders.{surplusReader}
+use Rattle.header.specs.Refusals.{HeaderReadRefusals}
+use Rattle.header.specs.WrongReaders.{surplusReader, evenReader, missingFirstReader}
+use Rattle.header.proofs.OneRule.{one-reader}
 
 longer : List ℕ
 longer = 0xF1 ∷ 0x81 ∷ 0x0F ∷ 0 ∷ 0x3E ∷ []
@@ -23,3 +26,11 @@ surplus-reader-refuted claim =
     let all : AreOctets longer = (lit< tt, (lit< tt, (lit< tt, (lit< tt, (lit< tt, tt))))) in
     let written = claim .writtenSo longer 62 5 all refl .2 (replicate 5 0) (lit≤ tt) .0 in
     omega (arith, ap (λ (w : Written). w .count) written)
+
+pub even-reader-refuted : HeaderReadRefusals evenReader → ⊥
+unfolding evenReader reading startFault inOrder sizeTold addressFault zeroFault
+even-reader-refuted claim = omega (arith, ap (λ (x : HeaderAnswer). x .refusal) (one-reader evenReader claim (0xF1 ∷ 0x80 ∷ 0x0F ∷ 0x3E ∷ [])))
+
+pub missing-first-reader-refuted : HeaderReadRefusals missingFirstReader → ⊥
+unfolding missingFirstReader reading startFault inOrder sizeTold addressFault
+missing-first-reader-refuted claim = omega (arith, ap (λ (x : HeaderAnswer). x .refusal) (one-reader missingFirstReader claim (0xF1 ∷ 0x88 ∷ 0x0F ∷ [])))

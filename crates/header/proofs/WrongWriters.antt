@@ -1,5 +1,6 @@
 -- Each wrong writer is refuted by demand 2 at the address 1: one that writes nothing, refuses or pads in a buffer that has room, one that says
--- done without room in the empty buffer, and one that spoils in a buffer with one octet more than the header. Assumes nothing.
+-- done without room in the empty buffer, and one that spoils in a buffer with one octet more than the header. One that has 10 before 9 is refuted by
+-- demand 1 at zero and the empty buffer. Assumes nothing.
 use mathlib.Core.Path.{refl, ap}
 use mathlib.Core.List.{List, []}
 use Prim.Native.Nat.{ℕ}
@@ -10,10 +11,12 @@ use Rattle.octets.specs.declared.Written.{Written}
 use Rattle.address.specs.Bits.{bits, bitsIn}
 use Rattle.address.specs.Address.{bitLength}
 use Rattle.address.specs.Numbers.{IsAddress}
-use Rattle.octets.specs.Octets.{octets, refuseWriting, write}
+use Rattle.octets.specs.Octets.{octets, WriteEffect, refuseWriting, write}
 use Rattle.header.specs.Header.{header, place, size, writing, reading, HeaderAnswer, startFault, inOrder}
 use Rattle.header.specs.RoundTrip.{HeaderReader, HeaderRoundTrip}
-use Rattle.header.specs.WrongWriters.{silentWriter, refusingWriter, roomlessWriter, spoilingWriter, paddingWriter}
+use Rattle.header.specs.WrongWriters.{silentWriter, refusingWriter, roomlessWriter, spoilingWriter, paddingWriter, roomFirstWriter}
+use Rattle.header.specs.Refusals.{HeaderWriteRefusals}
+use Rattle.header.proofs.OneRule.{one-writer}
 
 one : IsAddress 1
 one = record { some = lit< tt; fits = lit< tt }
@@ -39,3 +42,7 @@ spoiling-writer-refuted claim =
 pub padding-writer-refuted : (reader : HeaderReader) → HeaderRoundTrip paddingWriter reader → ⊥
 unfolding paddingWriter write place size bitLength bits bitsIn
 padding-writer-refuted reader claim = omega (arith, ap (λ (w : Written). w .count) (claim .readsBack 1 (replicate 5 0) one (lit≤ tt) .0))
+
+pub room-first-writer-refuted : HeaderWriteRefusals roomFirstWriter → ⊥
+unfolding roomFirstWriter writing refuseWriting place size bitLength bits bitsIn
+room-first-writer-refuted claim = omega (arith, ap (λ (w : WriteEffect). w .answer .refusal) (one-writer roomFirstWriter claim 0 []))

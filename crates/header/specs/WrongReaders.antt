@@ -1,11 +1,11 @@
--- A wrong reader, which the statement of demand 2 must exclude.
+-- Wrong readers, which the statement of demand 2 or of demand 1 must exclude.
 use mathlib.Core.Bool.{_&&_}
-use Prim.Native.Nat.{_+_}
+use Prim.Native.Nat.{_+_, _%_}
 use lib.Dec.{eqb, ltb, leb}
 use lib.ListN.{length}
 use Rattle.address.specs.Choice.{if_then_else_}
 use Rattle.octets.specs.Octets.{value}
-use Rattle.header.specs.Header.{fixedOctets, reading, found, startFault, sizeTold, addressOctets}
+use Rattle.header.specs.Header.{fixedOctets, reading, found, refusedHeader, startFault, sizeTold, addressOctets}
 use Rattle.header.specs.RoundTrip.{HeaderReader}
 
 -- it takes two octets also where the first is zero and one would do; right otherwise
@@ -14,3 +14,11 @@ surplusReader p =
     if eqb (startFault p) 0 && eqb (sizeTold p) 2 && leb (fixedOctets + 2) (length p) && ltb 0 (value (addressOctets 2 p))
     then found (value (addressOctets 2 p)) (fixedOctets + 2)
     else reading p
+
+-- it takes an even number of octets alone, as the rule was before document 02 (Three); right otherwise
+unfoldable pub evenReader : HeaderReader
+evenReader p = if eqb (startFault p) 0 && eqb (sizeTold p % 2) 1 then refusedHeader 6 else reading p
+
+-- 4 before 6: it looks for the address's octets before it judges their number; right otherwise
+unfoldable pub missingFirstReader : HeaderReader
+missingFirstReader p = if eqb (startFault p) 0 && ltb (length p) (fixedOctets + sizeTold p) then refusedHeader 4 else reading p

@@ -1,8 +1,8 @@
--- Wrong writers, which the statement of demand 2 must exclude.
+-- Wrong writers, which the statement of demand 2 or of demand 1 must exclude.
 use mathlib.Core.Bool.{_&&_}
 use mathlib.Core.List.{[], _∷_}
 use Prim.Native.Nat.{_+_}
-use lib.Dec.{eqb, leb}
+use lib.Dec.{eqb, ltb, leb}
 use lib.ListN.{length, take, set}
 use Rattle.address.specs.Choice.{if_then_else_}
 use Rattle.octets.specs.Octets.{wrote, refuseWriting, write}
@@ -34,3 +34,7 @@ unfoldable pub paddingWriter : HeaderWriter
 paddingWriter a buffer =
     if eqb (size a) 1 && leb (fixedOctets + 2) (length buffer) then write (0xF1 ∷ 0x81 ∷ 0x0F ∷ 0 ∷ a ∷ []) buffer
     else writing a buffer
+
+-- 10 before 9: it looks for room before it looks at the address; right otherwise
+unfoldable pub roomFirstWriter : HeaderWriter
+roomFirstWriter a buffer = if ltb (length buffer) (place a) then refuseWriting 10 buffer else writing a buffer
