@@ -122,17 +122,18 @@ local function read_size(tvb)
     return octet(tvb, 1) % (SIZE_BITS + 1) + 1
 end
 
--- "a size above 8" is 6. "Then a missing address octet is 4." Then the zeros.
+-- "a size above 8" is 6. "Then a missing address octet is 4." Then the zeros: the first octet decides, also where the capture has no other.
 local function read_address(tvb)
     local size = read_size(tvb)
     if size > LARGEST then
         return WRONG_SIZE
     end
     local present = presence(tvb, START + size)
-    if present ~= DONE then
+    if present == ENDS_EARLY or presence(tvb, START + 1) ~= DONE then
         return present
     end
-    return zero_fault(size, octet(tvb, START))
+    local fault = zero_fault(size, octet(tvb, START))
+    return fault ~= DONE and fault or present
 end
 
 -- The whole reading: its refusal (or DONE, or CUT), and how many of the first three octets were looked at.

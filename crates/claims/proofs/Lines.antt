@@ -24,7 +24,7 @@ use Rattle.address.proofs.KindLaws.{kinds}
 use Rattle.address.proofs.RefusalLaws.{address-refusals}
 use Rattle.address.proofs.Promises.{one-made, of-promise, of-asks-nothing, new-promise, new-asks-nothing, bit-length-promise, bit-length-asks-nothing, is-host-promise, is-host-asks-nothing, depth-promise, depth-asks-nothing, parent-promise, parent-asks-nothing}
 use Rattle.address.specs.Kinds.{IsRoot, IsRouter, IsHost}
-use Rattle.octets.specs.Octets.{same}
+use Rattle.octets.specs.Octets.{octets, joined, value, same}
 use Rattle.octets.proofs.Correspondence.{octets-one-to-one, value-zeros, same-exactly}
 use Rattle.octets.proofs.Promises.{put-asks-nothing, get-promise, get-asks-nothing}
 use Rattle.search.specs.Search.{childEnd, firstBits}
@@ -32,7 +32,7 @@ use Rattle.search.proofs.Words.{search-words}
 use Rattle.search.proofs.SearchLaws.{childEnd-past}
 use Rattle.search.proofs.Ones.{childEnd-leading}
 use Rattle.search.proofs.Promises.{child-end-promise, child-end-asks-nothing, child-end-by-bits-promise, child-end-by-bits-asks-nothing, same-child-end, first-bits-promise, first-bits-asks-nothing}
-use Rattle.header.specs.Header.{headerAnswer, place, header, reading}
+use Rattle.header.specs.Header.{headerAnswer, size, place, header, reading, startFault, inOrder, sizeTold, addressOctets, zeroFault, addressFault}
 use Rattle.header.proofs.Size.{fewest-octets}
 use Rattle.header.proofs.Writing.{length-header}
 use Rattle.header.proofs.Demand2.{header-round-trip, wrote-header}
@@ -108,7 +108,7 @@ use Rattle.claims.specs.Demand3.{treeOf, Growth, TreeWords, EveryList}
 use Rattle.claims.specs.NextHop.{HopAnswers, NextHop}
 use Rattle.claims.specs.Paths.{ThePath, exampleLine, exampleText, refusal11, hopsWord, binary, eachOnALine, TheLine}
 use Rattle.claims.specs.Structs.{Cases, OneAnswer, Fields}
-use Rattle.claims.specs.Excluded.{KnownRows, WrongNextHops, WrongChildren, OneHeaderRule, OnePlanRule, WrongPlanRules, WrongWritersAndReaders, HoldOfOurs}
+use Rattle.claims.specs.Excluded.{KnownRows, ValuesOfThree, WrongNextHops, WrongChildren, OneHeaderRule, OnePlanRule, WrongPlanRules, WrongWritersAndReaders, HoldOfOurs}
 use Rattle.claims.specs.Code.{AsksNothing, AnswersAsDefined, TheSearch}
 use Rattle.claims.specs.Exports.{ExportsAskNothing, ExportsAnswerAsDefined}
 
@@ -282,11 +282,12 @@ only-the-named = record {
 -- ---- demand 2
 
 pub headers : Headers
-unfolding place header
+unfolding place header octets
 headers = record {
   laid = λ a. refl;
   answersWritten = λ n. refl;
   answersFound = λ a k. refl;
+  answersRefused = λ n. refl;
   written = wrote-header;
   readsBack = λ a buffer payload n h done. header-round-trip .whereDone a buffer payload n h done .0;
   sparesTheRest = λ a buffer n h done. header-round-trip .whereDone a buffer [] n h done .1;
@@ -304,6 +305,8 @@ headers = record {
   noOctet = tt;
   anOctetMore = λ o os. (λ h. h, λ h. h);
   octetsHold = octets-one-to-one .held;
+  octetsOfNone = λ n. refl;
+  octetsOfMore = λ k n. refl;
   octetsShown = λ os are. octets-one-to-one .shown os are .1;
   sameOctets = same-exactly;
 }
@@ -473,6 +476,18 @@ the-line = record {
 pub known-rows : KnownRows
 unfolding table
 known-rows = record { everyRowHolds = known-values; fifteen = refl }
+
+pub values-of-three : ValuesOfThree
+unfolding header size octets reading startFault inOrder sizeTold addressFault zeroFault addressOctets value joined bitLength bits bitsIn
+values-of-three = record {
+  headerOf111110 = refl;
+  read111110 = refl;
+  aZeroInFront = refl;
+  twoZeros = refl;
+  nothingBehind = refl;
+  read65536 = refl;
+  sizeOf65536 = refl;
+}
 
 pub hold-of-ours : HoldOfOurs
 hold-of-ours = record {

@@ -1,6 +1,6 @@
 -- Demand 2: "Every address we write as a header or as IPv6 reads back as itself, and every header or IPv6 form we accept is the one we would have
 -- written."
-use Prim.Native.Nat.{ℕ, _+_, _*_, _-_, _^_, _≤_, _<_}
+use Prim.Native.Nat.{ℕ, suc, _+_, _*_, _-_, _/_, _%_, _^_, _≤_, _<_}
 use mathlib.Core.Path.{_≡_}
 use mathlib.Core.Logic.{_↔_}
 use mathlib.Core.Bool.{true}
@@ -9,7 +9,7 @@ use lib.ListN.{length, take, drop}
 use Rattle.address.specs.Numbers.{IsAddress}
 use Rattle.address.specs.Address.{validAddress}
 use Rattle.octets.specs.Octets.{AreOctets, octets, value, same, wrote}
-use Rattle.header.specs.Header.{size, place, header, writing, reading, found}
+use Rattle.header.specs.Header.{size, place, header, writing, reading, found, refusedHeader}
 use Rattle.ipv6.specs.Form.{formWriting, formReading}
 use Rattle.ipv6.specs.Refusals.{AcceptedForm}
 
@@ -22,9 +22,10 @@ pub record Headers : Type 0 where
   pub oneToEight : (a : ℕ) → IsAddress a → (1 ≤ size a) × (size a ≤ 8)
   pub holds : (a : ℕ) → IsAddress a → a < 256 ^ size a
   pub fewest : (a s : ℕ) → IsAddress a → a < 256 ^ s → size a ≤ s
-  -- what an answer without a refusal is
+  -- what the answers are
   pub answersWritten : (n : ℕ) → wrote n ≡ record { refusal = 0; count = n }
   pub answersFound : (a k : ℕ) → found a k ≡ record { refusal = 0; address = a; place = k }
+  pub answersRefused : (n : ℕ) → refusedHeader n ≡ record { refusal = n; address = 0; place = 0 }
   -- in every buffer that has room the header is written, and nothing else
   pub written : (a : ℕ) (buffer : List ℕ) → IsAddress a → place a ≤ length buffer
       → (writing a buffer .answer ≡ wrote (place a)) × (writing a buffer .buffer ≡ header a ++ drop (place a) buffer)
@@ -34,8 +35,8 @@ pub record Headers : Type 0 where
   -- and behind n the buffer is as it was
   pub sparesTheRest : (a : ℕ) (buffer : List ℕ) (n : ℕ) → a < 2 ^ 64 → writing a buffer .answer ≡ wrote n
       → drop n (writing a buffer .buffer) ≡ drop n buffer
-  -- whatever octets read as an address do read as one, with the place within them, and are, up to the place, those that we write into any
-  -- buffer that has room for them
+  -- whatever is read is an address, its place within the octets; and up to the place these are what we write into any buffer that has room for
+  -- them
   pub acceptsAddresses : (p : List ℕ) (a k : ℕ) → AreOctets p → reading p ≡ found a k → IsAddress a × (k ≤ length p)
   pub acceptsTheWritten : (p : List ℕ) (a k : ℕ) → AreOctets p → reading p ≡ found a k → (buffer : List ℕ) → k ≤ length buffer
       → (writing a buffer .answer ≡ wrote k) × (take k (writing a buffer .buffer) ≡ take k p)
@@ -52,6 +53,9 @@ pub record Headers : Type 0 where
   pub anOctetMore : (o : ℕ) (os : List ℕ) → AreOctets (o ∷ os) ↔ ((o < 256) × AreOctets os)
   -- k octets give their number back, and numbers their octets
   pub octetsHold : (k n : ℕ) → n < 256 ^ k → AreOctets (octets k n) × (length (octets k n) ≡ k) × (value (octets k n) ≡ n)
+  -- the last k octets, also of a number that they do not hold
+  pub octetsOfNone : (n : ℕ) → octets 0 n ≡ []
+  pub octetsOfMore : (k n : ℕ) → octets (suc k) n ≡ octets k (n / 256) ++ (n % 256 ∷ [])
   pub octetsShown : (os : List ℕ) → AreOctets os → octets (length os) (value os) ≡ os
   -- the test for the same octets
   pub sameOctets : (xs ys : List ℕ) → (same xs ys ≡ true) ↔ (xs ≡ ys)

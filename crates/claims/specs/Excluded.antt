@@ -1,10 +1,10 @@
--- The known values of document 01 that are marked P, two of them as document 02 (Three) has them; and the wrong rules that it names, and some more,
--- each refuted through the claim that excludes it.
+-- The known values of document 01 that are marked P, two of them as document 02 (Three) has them, and those of Three; and the wrong rules that
+-- document 01 names, and some more, each refuted through the claim that excludes it.
 use mathlib.Core.Path.{_≡_}
 use Prim.Native.Nat.{ℕ}
-use mathlib.Core.List.{List}
+use mathlib.Core.List.{List, [], _∷_}
 use lib.ListN.{length}
-use Rattle.header.specs.Header.{writing, reading}
+use Rattle.header.specs.Header.{size, header, writing, reading, found, refusedHeader}
 use Rattle.header.specs.RoundTrip.{HeaderWriter, HeaderReader, HeaderRoundTrip}
 use Rattle.header.specs.Refusals.{HeaderWriteRefusals, HeaderReadRefusals}
 use Rattle.header.specs.WrongWriters.{silentWriter, refusingWriter, roomlessWriter, spoilingWriter, paddingWriter, roomFirstWriter}
@@ -37,6 +37,20 @@ pub record KnownRows : Type 0 where
   pub everyRowHolds : AllHold table
   -- fourteen sentences carry a P, and one of them has two answers
   pub fifteen : length table ≡ 15
+
+-- the values that document 02 names in Three
+pub record ValuesOfThree : Type 0 where
+  -- "Address 111110 is F1 80 0F 3E."
+  pub headerOf111110 : header 0b111110 ≡ 0xF1 ∷ 0x80 ∷ 0x0F ∷ 0x3E ∷ []
+  pub read111110 : reading (0xF1 ∷ 0x80 ∷ 0x0F ∷ 0x3E ∷ []) ≡ found 0b111110 4
+  -- "F1 81 0F 00 3E and F1 81 0F 00 00 are now 6"
+  pub aZeroInFront : reading (0xF1 ∷ 0x81 ∷ 0x0F ∷ 0x00 ∷ 0x3E ∷ []) ≡ refusedHeader 6
+  pub twoZeros : reading (0xF1 ∷ 0x81 ∷ 0x0F ∷ 0x00 ∷ 0x00 ∷ []) ≡ refusedHeader 6
+  -- "F1 82 0F with nothing behind it is now 4"
+  pub nothingBehind : reading (0xF1 ∷ 0x82 ∷ 0x0F ∷ []) ≡ refusedHeader 4
+  -- "F1 82 0F 01 00 00 is now address 65,536, which takes 3 octets"
+  pub read65536 : reading (0xF1 ∷ 0x82 ∷ 0x0F ∷ 0x01 ∷ 0x00 ∷ 0x00 ∷ []) ≡ found 65536 6
+  pub sizeOf65536 : size 65536 ≡ 3
 
 -- the claims that exclude wrong rules hold of ours, whole
 pub record HoldOfOurs : Type 0 where

@@ -16,19 +16,19 @@ use Rattle.header.proofs.RefusalLaws.{header-write-refusals, header-rea
 -- ---- writing
 
 module _ (writer : HeaderWriter) (claim : HeaderWriteRefusals writer) (a : ℕ) (buffer : List ℕ) where
-  abbrev made : WriteEffect
-  made = writer a buffer
+  abbrev theirs : WriteEffect
+  theirs = writer a buffer
 
-  abbrev right : WriteEffect
-  right = writing a buffer
+  abbrev ours : WriteEffect
+  ours = writing a buffer
 
-  same-number : made .answer .refusal ≡ right .answer .refusal
-  same-number = claim .given a buffer (right .answer .refusal) .1 (header-write-refusals .given a buffer (right .answer .refusal) .0 refl)
+  same-number : theirs .answer .refusal ≡ ours .answer .refusal
+  same-number = claim .given a buffer (ours .answer .refusal) .1 (header-write-refusals .given a buffer (ours .answer .refusal) .0 refl)
 
-  same-rest : (made .answer .count ≡ right .answer .count) × (made .buffer ≡ right .buffer)
-  same-rest = go (ℕ-discrete (right .answer .refusal) 0)
+  same-rest : (theirs .answer .count ≡ ours .answer .count) × (theirs .buffer ≡ ours .buffer)
+  same-rest = go (ℕ-discrete (ours .answer .refusal) 0)
     where
-      go : Dec (right .answer .refusal ≡ 0) → (made .answer .count ≡ right .answer .count) × (made .buffer ≡ right .buffer)
+      go : Dec (ours .answer .refusal ≡ 0) → (theirs .answer .count ≡ ours .answer .count) × (theirs .buffer ≡ ours .buffer)
       go (yes h) =
           let mine = claim .without a buffer (same-number ∙ h) in
           let ours = header-write-refusals .without a buffer h in

@@ -1,4 +1,4 @@
--- Demand 1 for the header: each refusal is "given exactly when that document says", in the document's order, as document 02 (Three) amends it. The
+-- Demand 1 for the header: each refusal is "given exactly when that document says", as document 02 (Three) amends it, in the document's order. The
 -- conditions are the documents' words about addresses, buffers and octets, apart from the tests that `writing` and `reading` run. The statements
 -- are of any writer and any reader, so that a wrong one can be refuted by them.
 use mathlib.Core.Path.{_≡_}

@@ -26,7 +26,8 @@ pub record HeaderRoundTrip (writer : HeaderWriter) (reader : HeaderReader) : Typ
       → (reader (writer a buffer .buffer ++ payload) ≡ found a n)
       × (drop n (writer a buffer .buffer) ≡ drop n buffer)
       × (length (writer a buffer .buffer) ≡ length buffer)
-  -- whatever octets read as an address do read as one, and are, up to the place, those that we write into any buffer that has room for them
+  -- whatever is read is an address, its place within the octets; and up to the place these are what we write into any buffer that has room for
+  -- them
   pub writtenSo : (p : List ℕ) (a k : ℕ) → AreOctets p → reader p ≡ found a k
       → IsAddress a × (k ≤ length p)
       × ((buffer : List ℕ) → k ≤ length buffer → (writer a buffer .answer ≡ wrote k) × (take k (writer a buffer .buffer) ≡ take k p))

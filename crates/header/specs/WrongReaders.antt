@@ -15,7 +15,7 @@ surplusReader p =
     then found (value (addressOctets 2 p)) (fixedOctets + 2)
     else reading p
 
--- it takes an even number of octets alone, as the rule was before document 02 (Three); right otherwise
+-- it refuses an odd number of octets, as it was right before document 02 (Three); right otherwise
 unfoldable pub evenReader : HeaderReader
 evenReader p = if eqb (startFault p) 0 && eqb (sizeTold p % 2) 1 then refusedHeader 6 else reading p
 

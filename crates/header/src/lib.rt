@@ -91,7 +91,7 @@ fn start_fault(packet: &[u8]) -> u8
     0
 }
 
-// The fault of an address in so many octets, by the first of them; 0 where there is none: it is zero, or a shorter form does without the octet.
+// The fault of an address in so many octets, by the first of them: the address is zero, or fewer octets hold it. 0 where there is none.
 fn zero_fault(size: usize, first: u8) -> u8
     ensures { λ r. ⌜ r ≡ zeroFault size first ⌝ }
 {
