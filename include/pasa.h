@@ -259,7 +259,7 @@ struct pasa_hop pasa_packet_next_hop(struct pasa_node node, const uint8_t *packe
 size_t pasa_next_hops(struct pasa_node node, const uint64_t *destinations, size_t destinations_length, uint64_t *nodes, size_t nodes_length,
                       uint8_t *actions, size_t actions_length, uint8_t *refusals, size_t refusals_length);
 
-/* Writes the address's header, 5, 7, 9 or 11 octets, to the front of the buffer. Refusals: 9, 10. */
+/* Writes the address's header, 4 to 11 octets, to the front of the buffer. Refusals: 9, 10. */
 struct pasa_written pasa_header_write(uint64_t address, uint8_t *out, size_t out_length);
 
 /* Reads the header at the front of a packet. Refusals: 4, 5, 6, 9, in the specification's order of reading. */

@@ -9,7 +9,8 @@ use native.Mathlib.Omega.{arith}
 use native.Mathlib.Numerals.{add-one}
 use borrow.Author.Tests.{eq-eqb, ne-eqb}
 use lib.Dec.{lit≤}
-use lib.ListN.{length}
+use lib.ListN.{length, drop}
+use lib.Seq.{drop-at}
 use Rattle.address.specs.Bits.{Bit, O, I, lastBit, bitsIn, bits, digit, numberFrom, number}
 use Rattle.address.specs.declared.Kind.the-variants.{Router, Host}
 use Rattle.address.specs.Steps.{Step, child, lastStep, cut, stepsOf, steps, lastOf, stepBits, spelled, addressOf}
@@ -25,6 +26,7 @@ use Rattle.address.proofs.RefusalLaws.{address-refusals}
 use Rattle.address.proofs.Promises.{one-made, of-promise, of-asks-nothing, new-promise, new-asks-nothing, bit-length-promise, bit-length-asks-nothing, is-host-promise, is-host-asks-nothing, depth-promise, depth-asks-nothing, parent-promise, parent-asks-nothing}
 use Rattle.address.specs.Kinds.{IsRoot, IsRouter, IsHost}
 use Rattle.octets.specs.Octets.{octets, joined, value, same}
+use Rattle.octets.specs.declared.Written.{Written}
 use Rattle.octets.proofs.Correspondence.{octets-one-to-one, value-zeros, same-exactly}
 use Rattle.octets.proofs.Promises.{put-asks-nothing, get-promise, get-asks-nothing}
 use Rattle.search.specs.Search.{childEnd, firstBits}
@@ -290,7 +292,10 @@ headers = record {
   answersRefused = λ n. refl;
   written = wrote-header;
   readsBack = λ a buffer payload n h done. header-round-trip .whereDone a buffer payload n h done .0;
-  sparesTheRest = λ a buffer n h done. header-round-trip .whereDone a buffer [] n h done .1;
+  sparesTheRest = λ a buffer n done.
+      let (count, left) = header-write-refusals .without a buffer (ap (λ (w : Written). w .refusal) done) in
+      let many : length (header a) ≡ n = sym count ∙ ap (λ (w : Written). w .count) done in
+      ap (drop n) left ∙ drop-at (header a) (drop (length (header a)) buffer) n many ∙ ap (λ (k : ℕ). drop k buffer) many;
   acceptsAddresses = λ p a k are e. let so = header-round-trip .writtenSo p a k are e in (so .0, so .1);
   acceptsTheWritten = λ p a k are e. header-round-trip .writtenSo p a k are e .2;
   acceptsSo = λ p e.

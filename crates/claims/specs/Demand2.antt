@@ -33,8 +33,7 @@ pub record Headers : Type 0 where
   pub readsBack : (a : ℕ) (buffer payload : List ℕ) (n : ℕ) → a < 2 ^ 64 → writing a buffer .answer ≡ wrote n
       → reading (writing a buffer .buffer ++ payload) ≡ found a n
   -- and behind n the buffer is as it was
-  pub sparesTheRest : (a : ℕ) (buffer : List ℕ) (n : ℕ) → a < 2 ^ 64 → writing a buffer .answer ≡ wrote n
-      → drop n (writing a buffer .buffer) ≡ drop n buffer
+  pub sparesTheRest : (a : ℕ) (buffer : List ℕ) (n : ℕ) → writing a buffer .answer ≡ wrote n → drop n (writing a buffer .buffer) ≡ drop n buffer
   -- whatever is read is an address, its place within the octets; and up to the place these are what we write into any buffer that has room for
   -- them
   pub acceptsAddresses : (p : List ℕ) (a k : ℕ) → AreOctets p → reading p ≡ found a k → IsAddress a × (k ≤ length p)

@@ -329,7 +329,7 @@ fn header_read(packet: &[u8], seen: &mut Seen) {
 #[test]
 fn header_reads() {
     let seen = &mut Seen::default();
-    // every beginning of one and two octets, with right octets behind it, and every beginning of valid packets
+    // every value of the first two octets, of the two behind the first, and of the address's first two; and every beginning of valid packets
     for first in 0..=u16::MAX {
         let [a, b] = first.to_be_bytes();
         header_read(&[a, b, 15, 1], seen);
