@@ -1,12 +1,13 @@
--- What the functions of this crate promise, by their contracts as the code states them, is `fresh`, `count`, `isGood` and `childOf`: the
+-- What the functions of this crate promise, by their contracts as the code states them, is `fresh`, `withCounts`, `count`, `isGood` and `childOf`: the
 -- definitions of which the laws are proved. None of them asks anything of its caller.
 use mathlib.Core.Path.{_≡_}
 use mathlib.Core.Bool.{Bool}
 use Prim.Native.Nat.{ℕ}
 use Rattle.address.specs.declared.Address.{Address}
 use Rattle.address.specs.declared.Kind.{Kind}
-use Rattle.node.specs.Node.{Node, Given, fresh, count, isGood, childOf}
+use Rattle.node.specs.Node.{Node, Given, fresh, withCounts, count, isGood, childOf}
 use Rattle.node.proofs.Node.fresh.Reads as fresh-reads
+use Rattle.node.proofs.Node.with_counts.Reads as with-counts-reads
 use Rattle.node.proofs.Node.count.Reads as count-reads
 use Rattle.node.proofs.Node.is_good.Reads as is-good-reads
 use Rattle.node.proofs.Node.child.Reads as child-reads
@@ -16,6 +17,13 @@ fresh-promise address r h = h
 
 pub fresh-asks-nothing : (address : Address) → fresh-reads.Asked tt (address, tt)
 fresh-asks-nothing address = tt
+
+pub with-counts-promise : (n : Node) (routers hosts : ℕ) (r : Node) → with-counts-reads.Learnt tt (n, (routers, (hosts, tt))) r (n, (routers, (hosts, tt)))
+    → r ≡ withCounts routers hosts n
+with-counts-promise n routers hosts r h = h
+
+pub with-counts-asks-nothing : (n : Node) (routers hosts : ℕ) → with-counts-reads.Asked tt (n, (routers, (hosts, tt)))
+with-counts-asks-nothing n routers hosts = tt
 
 pub count-promise : (n : Node) (kind : Kind) (r : ℕ) → count-reads.Learnt tt (n, (kind, tt)) r (n, (kind, tt)) → r ≡ count kind n
 count-promise n kind r h = h

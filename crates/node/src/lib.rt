@@ -6,7 +6,7 @@ ghost use mathlib.Core.Path.{_≡_};
 ghost use Prim.Native.Nat.{_<_};
 ghost use Rattle.address.specs.Bits.{digit};
 ghost use Rattle.address.specs.Steps.{lastOf};
-ghost use Rattle.node.specs.Node.{fresh, count, raised, isGood, refuseChild, childOf};
+ghost use Rattle.node.specs.Node.{fresh, withCounts, count, raised, isGood, refuseChild, childOf};
 
 // Refusals: "the node record is bad", "a host is asked for a child", "the child would be longer than 64 bits".
 pub const BAD_RECORD: u8 = 1;
@@ -48,6 +48,18 @@ impl Node {
             address,
             routers: 0,
             hosts: 0,
+        }
+    }
+
+    // The record with other counts: that of a node which has given these children already.
+    pub fn with_counts(self, routers: u8, hosts: u8) -> Node
+        ensures { λ r. ⌜ r ≡ withCounts routers hosts self ⌝ }
+    {
+        let address = self.address;
+        Node {
+            address,
+            routers,
+            hosts,
         }
     }
 
