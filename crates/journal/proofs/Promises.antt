@@ -1,0 +1,37 @@
+-- What the public functions promise, by their contracts as the code states them, is `recovering`, `writing` and `recordIn`. None of them asks
+-- anything of its caller.
+use mathlib.Core.Path.{_≡_, ap₂}
+use mathlib.Core.List.{List}
+use Prim.Native.Nat.{ℕ}
+use contract.Lifetimes.{Lfts}
+use denote.Ref.{RefT, now}
+use Rattle.address.specs.declared.Address.{Address}
+use Rattle.journal.specs.Recovery.{Recovered, recovering}
+use Rattle.journal.specs.Writing.{Placed, writing}
+use Rattle.journal.specs.Record.{Record, recordIn}
+use Rattle.journal.proofs.recover.Reads as recover-reads
+use Rattle.journal.proofs.write.Reads as write-reads
+use Rattle.journal.proofs.record_in.Reads as record-in-reads
+
+pub recover-promise : (κs : Lfts 2) (journal words last : RefT (List ℕ)) (r : Recovered)
+    → recover-reads.Learnt κs (journal, (words, tt)) r (journal, (last, tt))
+    → record { answer = r; words = now last } ≡ recovering (now journal) (now words)
+recover-promise κs journal words last r h = ap₂ (λ (p : Recovered) (w : List ℕ). record { answer = p; words = w }) (h .0) (h .1)
+
+pub recover-asks-nothing : (κs : Lfts 2) (journal words : RefT (List ℕ)) → recover-reads.Asked κs (journal, (words, tt))
+recover-asks-nothing κs journal words = tt
+
+pub write-promise : (κs : Lfts 2) (journal addresses last : RefT (List ℕ)) (r : Placed)
+    → write-reads.Learnt κs (journal, (addresses, tt)) r (last, (addresses, tt))
+    → record { answer = r; journal = now last } ≡ writing (now journal) (now addresses)
+write-promise κs journal addresses last r h = ap₂ (λ (p : Placed) (j : List ℕ). record { answer = p; journal = j }) (h .0) (h .1)
+
+pub write-asks-nothing : (κs : Lfts 2) (journal addresses : RefT (List ℕ)) → write-reads.Asked κs (journal, (addresses, tt))
+write-asks-nothing κs journal addresses = tt
+
+pub record-in-promise : (κs : Lfts 1) (words : RefT (List ℕ)) (address : Address) (r : Record)
+    → record-in-reads.Learnt κs (words, (address, tt)) r (words, (address, tt)) → r ≡ recordIn (now words) (address .number)
+record-in-promise κs words address r h = h
+
+pub record-in-asks-nothing : (κs : Lfts 1) (words : RefT (List ℕ)) (address : Address) → record-in-reads.Asked κs (words, (address, tt))
+record-in-asks-nothing κs words address = tt
