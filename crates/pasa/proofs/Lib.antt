@@ -1,3 +1,4 @@
 -- The laws of the pasa crate.
 pub mod Promises
 pub mod AddressPromises
+pub mod JournalPromises

@@ -3,4 +3,5 @@ pub mod Children
 pub mod Bytes
 pub mod Paths
 pub mod Plans
+pub mod Journals
 pub mod Addresses

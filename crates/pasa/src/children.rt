@@ -36,7 +36,8 @@ pub fn node_of(node: PasaNode) -> Node
     }
 }
 
-fn pasa_node(node: Node) -> PasaNode
+// The record as C holds it.
+pub fn pasa_node(node: Node) -> PasaNode
     ensures { λ r. ⌜ r ≡ pasaNode node ⌝ }
 {
     PasaNode {

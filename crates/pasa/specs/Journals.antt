@@ -1,0 +1,24 @@
+-- The answers about a journal as structs of plain numbers: the same numbers, in fields of the same names.
+use Prim.Native.Nat.{ℕ}
+use mathlib.Core.Bool.{Bool, true, false}
+use Rattle.journal.specs.declared.Placed.{Placed}
+use Rattle.journal.specs.declared.Recovered.{Recovered}
+use Rattle.journal.specs.declared.Record.{Record}
+use Rattle.pasa.specs.Children.{pasaNode}
+use Rattle.pasa.specs.declared.journals.PasaBlock.{PasaBlock}
+use Rattle.pasa.specs.declared.journals.PasaRecovered.{PasaRecovered}
+use Rattle.pasa.specs.declared.journals.PasaRecord.{PasaRecord}
+
+unfoldable pub pasaBlock : Placed → PasaBlock
+pasaBlock p = record { slot = p .slot; refusal = p .refusal }
+
+unfoldable pub pasaRecovered : Recovered → PasaRecovered
+pasaRecovered r = record { nodes = r .nodes; refusal = r .refusal }
+
+-- "found 1; or 0, and the node all zeros"
+unfoldable pub bit : Bool → ℕ
+bit true = 1
+bit false = 0
+
+unfoldable pub pasaRecord : Record → PasaRecord
+pasaRecord r = record { node = pasaNode (r .node); found = bit (r .found) }
