@@ -15,7 +15,7 @@ use Rattle.node.proofs.GivenChildren.{gives-children}
 use Rattle.tree.specs.Tree.{Request, request, Tree, bareRoot, Record, standing, absent, recordOf, replaced, withChild, answered, askedOf, ask, grow, grown, addresses, Reply, replied, nobody, givenBy, givenIn}
 use Rattle.tree.proofs.Trees.{addresses-replaced, addressIn-recordOf}
 
-givenBy-append : (xs ys : List Reply) → givenBy (xs ++ ys) ≡ givenBy xs ++ givenBy ys
+pub givenBy-append : (xs ys : List Reply) → givenBy (xs ++ ys) ≡ givenBy xs ++ givenBy ys
 unfolding givenBy
 givenBy-append [] ys = refl
 givenBy-append (replied zero a ∷ xs) ys = ap (λ (l : List ℕ). a ∷ l) (givenBy-append xs ys)
@@ -32,7 +32,7 @@ addresses-withChild g t = go (g .refusal)
         ∙ ap (λ (a : ℕ). map addressIn t ++ (a ∷ [])) (addressIn-fresh (g .child .number))
     go (suc k) = rw (ne-eqb (suc k) 0 (λ z. omega arith)) (sym (append-nil (addresses t)))
 
-addresses-ask : (t : Tree) (r : Request) → addresses (ask childOf t r .tree) ≡ addresses t ++ givenBy (ask childOf t r .replies)
+pub addresses-ask : (t : Tree) (r : Request) → addresses (ask childOf t r .tree) ≡ addresses t ++ givenBy (ask childOf t r .replies)
 unfolding ask
 addresses-ask t (request a kind) = go (recordOf a t) refl
   where
@@ -44,7 +44,7 @@ addresses-ask t (request a kind) = go (recordOf a t) refl
         (addresses-replaced (childOf n kind .node) (gives-children .keepsAddress n kind ∙ addressIn-recordOf a n t e) t)
     go absent e = unfold askedOf givenBy in sym (append-nil (addresses t))
 
-addresses-grow : (t : Tree) (rs : List Request) → addresses (grow childOf t rs .tree) ≡ addresses t ++ givenBy (grow childOf t rs .replies)
+pub addresses-grow : (t : Tree) (rs : List Request) → addresses (grow childOf t rs .tree) ≡ addresses t ++ givenBy (grow childOf t rs .replies)
 unfolding grow
 addresses-grow t [] = unfold givenBy in sym (append-nil (addresses t))
 addresses-grow t (r ∷ rs) =

@@ -129,12 +129,12 @@ module _ (t : Tree) (s : Sound t) (a : ℕ) (n : Node) (stands : recordOf a t �
   pub recordOf-other : (b : ℕ) → (a ≡ b → ⊥) → InTree b t → recordOf b after ≡ recordOf b t
   recordOf-other b ne i = kept b i ∙ recordOf-replaced-other handed same ne t
 
-  data Stands (b : ℕ) (m : Node) : Type 0 where
+  pub data Stands (b : ℕ) (m : Node) : Type 0 where
     isAsked : b ≡ a → m ≡ handed → Stands b m
     isNew : b ≡ new → m ≡ fresh new → Stands b m
     isOther : (a ≡ b → ⊥) → recordOf b t ≡ standing m → Stands b m
 
-  records : (b : ℕ) (m : Node) → recordOf b after ≡ standing m → Stands b m
+  pub records : (b : ℕ) (m : Node) → recordOf b after ≡ standing m → Stands b m
   records b m e = ⊎-elim (λ i. there i (ℕ-discrete a b)) (λ q. isNew q (cc recordOf-new)) (nodes b (inTree-recordOf b m after e))
     where
       there : InTree b t → Dec (a ≡ b) → Stands b m

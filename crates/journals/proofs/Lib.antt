@@ -1,0 +1,25 @@
+-- The laws of the journals crate.
+pub mod Before
+pub mod Among
+pub mod NextChild
+pub mod Taking
+pub mod Outcomes
+pub mod GivenReplayed
+pub mod Counting
+pub mod Counts
+pub mod Finding
+pub mod SlotTests
+pub mod SlotReplays
+pub mod SlotOutcomes
+pub mod Lengths
+pub mod FaultNumbers
+pub mod Recovering
+pub mod Placing
+pub mod Writing
+pub mod AfterWrites
+pub mod Cuts
+pub mod Erased
+pub mod RoundTrips
+pub mod OneRule
+pub mod WrongWriters
+pub mod Theorem
