@@ -1,3 +1,4 @@
 -- The front page's lines, each taken from the record that carries it.
 mod Lines
 mod PlanLines
+mod JournalLines

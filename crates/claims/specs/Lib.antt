@@ -14,6 +14,8 @@ pub mod Demand3
 pub mod Paths
 -- request One: a hall's plan, its text and its tree
 pub mod Plans
+-- request Four: a journal, what it recovers to, and the power cut
+pub mod Journals
 -- the known values, and the wrong rules that are excluded
 pub mod Excluded
 -- what the code promises is what the claims speak of, and no function asks anything

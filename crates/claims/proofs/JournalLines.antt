@@ -1,0 +1,278 @@
+-- The front page's lines on a journal, each taken from the record that carries it. Assumes nothing.
+use Prim.Native.Nat.{ℕ, zero, suc, min, _+_, _*_, _-_, _/_, _%_, _^_, _<_, _≤_}
+use mathlib.Core.Path.{_≡_, refl, sym, ap, ap₂, subst, _∙_}
+use mathlib.Core.Bool.{true, false, not, _&&_, and-false}
+use mathlib.Core.Logic.{_⊎_, inl, inr, ⊎-elim, _↔_}
+use mathlib.Core.List.{List, [], _∷_, _++_, List·Memᴰ}
+use native.Mathlib.Omega.{arith}
+use borrow.Author.Tests.{eq-eqb, ne-eqb}
+use lib.Dec.{eqb}
+use lib.ListN.{length, take, drop, getD, replicate, length-append}
+use lib.Seq.{take-at, drop-at, take-all}
+use Rattle.address.specs.Address.{isHost, parent}
+use Rattle.address.specs.declared.Kind.{Kind}
+use Rattle.address.specs.declared.Kind.the-variants.{Router, Host}
+use Rattle.octets.specs.Octets.{AreOctets}
+use Rattle.crc.specs.Crc.{bit, movedUp, shiftIn, shiftBits, shiftOctet, crcFrom, crc}
+use Rattle.crc.specs.Checks.{remainder}
+use Rattle.crc.proofs.ShiftLaws.{crc-fits}
+use Rattle.crc.proofs.Table.{table-rule}
+use Rattle.crc.proofs.Known.{known-checks}
+use Rattle.block.specs.Block.{spread, content, block}
+use Rattle.block.specs.Blocks.{AreWords, IsBlockOf}
+use Rattle.block.proofs.Theorem.{blocks}
+use Rattle.journal.specs.Slots.{slotsIn, slotsOf}
+use Rattle.journal.specs.Recovery.{recovering}
+use Rattle.journal.specs.Writing.{withSlot, writing}
+use Rattle.journal.specs.Record.{isKind, children}
+use Rattle.journals.specs.Replays.{IsReplayed, IsFirstFault}
+use Rattle.journals.specs.Slots.{Right, Holds, none, torn, block as aBlock, Fault, misplaced, noBlock, wrongAddress}
+use Rattle.journals.specs.Refusals.{Written, none as noneWritten, skipped, kept}
+use Rattle.journals.specs.PowerCuts.{Accepts, storedAt, inOrder}
+use Rattle.journals.specs.RoundTrip.{joined}
+use Rattle.journals.proofs.Recovering.{recover-refusals, recoverEnd-without, recovering-end, right-replayed, recovers-known}
+use Rattle.journals.proofs.Writing.{write-refusals}
+use Rattle.journals.proofs.AfterWrites.{after-write}
+use Rattle.journals.proofs.Cuts.{length-upTo, getD-upTo, power-cut}
+use Rattle.journals.proofs.RoundTrips.{round-trip}
+use Rattle.journals.proofs.Finding.{found-exactly, found-counts, node-notFound}
+use Rattle.journals.proofs.Theorem.{records}
+use Rattle.claims.specs.Journals.{TheCheck, TheBlock, TheSlots, JournalRefusals, RecoversTo, TheJournal, ThePowerCut, TheRecord}
+
+pub the-check : TheCheck
+unfolding bit movedUp shiftIn shiftBits shiftOctet crcFrom crc remainder
+the-check = record {
+  bitOf = λ k n. refl;
+  up = λ register. refl;
+  alike = λ register b e. rw (eq-eqb (register / 2 ^ 15 % 2) b e) refl;
+  unlike = λ register b ne. rw (ne-eqb (register / 2 ^ 15 % 2) b ne) refl;
+  noBit = λ register n. refl;
+  oneBit = λ k register n. refl;
+  anOctet = λ register o. refl;
+  noOctet = λ register. refl;
+  oneOctet = λ register o os. refl;
+  start = λ os. refl;
+  fits = crc-fits;
+  sixteen = table-rule .sixteen;
+  table = table-rule .each;
+  entry = λ half. refl;
+  nine = known-checks .ofNine;
+}
+
+pub the-block : TheBlock
+unfolding spread content block
+the-block = record {
+  noAddress = refl;
+  oneAddress = λ a xs. refl;
+  bytes = λ xs content e. rw e refl;
+  whole = λ xs some few. blocks .whole xs (some, few);
+  isBlockOf = λ xs slot. (
+    λ b. (b .words, b .count .0, b .count .1, b .bytes),
+    λ h. record { words = h .0; count = (h .1, h .2); bytes = h .3 },
+  );
+  noOther = λ xs ys slot b c. blocks .only xs slot b ∙ sym (blocks .only ys slot c);
+  noWord = (λ h. h, λ h. h);
+  oneWord = λ a xs. (λ h. h, λ h. h);
+}
+
+pub journal-refusals : JournalRefusals
+journal-refusals = record {
+  aRecovery = recover-refusals .given;
+  aBlock = write-refusals .given;
+  besideABlock = write-refusals .beside;
+  besideARecovery = recover-refusals .beside;
+  spared = recover-refusals .spared;
+  zeroed = recover-refusals .zeroed;
+}
+
+-- ---- the slots
+
+slotsOf-cons : (slot rest : List ℕ) → length slot ≡ 512 → slotsOf (slot ++ rest) ≡ slot ∷ slotsOf rest
+unfolding slotsOf slotsIn
+slotsOf-cons slot rest e =
+    let count : length (slot ++ rest) / 512 ≡ suc (length rest / 512) = omega (arith, length-append slot rest, e) in
+    ap (λ (k : ℕ). slotsIn k (slot ++ rest)) count
+    ∙ ap₂ (λ (s r : List ℕ). s ∷ slotsIn (length rest / 512) r) (take-at slot rest 512 e) (drop-at slot rest 512 e)
+
+holds-none : (xs : List ℕ) → Holds [] xs → xs ≡ []
+holds-none xs none = refl
+
+abbrev HoldsOne : (slot : List ℕ) (slots : List (List ℕ)) (xs : List ℕ) → Type 0
+HoldsOne slot slots xs =
+    ((slot ≡ replicate 512 0xFF → ⊥) × (getD slot 511 0 ≡ 0xFF) × Holds slots xs)
+    ⊎ ((more : List ℕ) × (others : List ℕ) × (xs ≡ more ++ others) × IsBlockOf more slot × Holds slots others)
+
+holds-one : (slot : List ℕ) (slots : List (List ℕ)) (xs : List ℕ) → Holds (slot ∷ slots) xs → HoldsOne slot slots xs
+holds-one slot slots xs (torn t h) = inl (t .0, t .1, h)
+holds-one slot slots xs (aBlock {more = more} {addresses = others} b h) = inr (more, others, refl, b, h)
+
+one-holds : (slot : List ℕ) (slots : List (List ℕ)) (xs : List ℕ) → HoldsOne slot slots xs → Holds (slot ∷ slots) xs
+one-holds slot slots xs (inl h) = torn (h .0, h .1) (h .2)
+one-holds slot slots xs (inr h) = subst (Holds (slot ∷ slots)) (sym (h .2)) (aBlock (h .3) (h .4))
+
+written-none : (all : List (List ℕ)) → Written [] all → all ≡ []
+written-none all noneWritten = refl
+
+abbrev WrittenOne : (slot : List ℕ) (slots all : List (List ℕ)) → Type 0
+WrittenOne slot slots all =
+    ((slot ≡ replicate 512 0xFF) × Written slots all)
+    ⊎ ((others : List (List ℕ)) × (all ≡ slot ∷ others) × (slot ≡ replicate 512 0xFF → ⊥) × Written slots others)
+
+written-one : (slot : List ℕ) (slots all : List (List ℕ)) → Written (slot ∷ slots) all → WrittenOne slot slots all
+written-one slot slots all (skipped e w) = inl (e, w)
+written-one slot slots all (kept {written = others} ne w) = inr (others, refl, ne, w)
+
+one-written : (slot : List ℕ) (slots all : List (List ℕ)) → WrittenOne slot slots all → Written (slot ∷ slots) all
+one-written slot slots all (inl h) = skipped (h .0) (h .1)
+one-written slot slots all (inr h) = subst (Written (slot ∷ slots)) (sym (h .1)) (kept (h .2) (h .3))
+
+abbrev FaultCases : (slots : List (List ℕ)) (n : ℕ) → Type 0
+FaultCases slots n =
+    ((before : List (List ℕ)) × (erased : List ℕ) × (between : List (List ℕ)) × (slot : List ℕ) × (rest : List (List ℕ)) × (nodes : List ℕ)
+    × (slots ≡ before ++ (erased ∷ between) ++ slot ∷ rest) × Right (before ++ (erased ∷ between)) nodes × (erased ≡ replicate 512 0xFF)
+    × (slot ≡ replicate 512 0xFF → ⊥) × (n ≡ 17))
+    ⊎ ((before : List (List ℕ)) × (slot : List ℕ) × (rest : List (List ℕ)) × (xs : List ℕ) × (nodes : List ℕ) × (slots ≡ before ++ slot ∷ rest)
+    × Holds before xs × IsReplayed xs nodes × (getD slot 511 0 ≡ 0xFF → ⊥) × ((more : List ℕ) → IsBlockOf more slot → ⊥) × (n ≡ 17))
+    ⊎ ((before : List (List ℕ)) × (slot : List ℕ) × (rest : List (List ℕ)) × (xs : List ℕ) × (more : List ℕ) × (nodes : List ℕ)
+    × (slots ≡ before ++ slot ∷ rest) × Holds before xs × IsReplayed xs nodes × IsBlockOf more slot × IsFirstFault (xs ++ more) n)
+
+fault-cases : (slots : List (List ℕ)) (n : ℕ) → Fault slots n → FaultCases slots n
+fault-cases slots n (misplaced before erased slot between rest nodes parts right e ne z) =
+    inl (before, erased, between, slot, rest, nodes, parts, right, e, ne, z)
+fault-cases slots n (noBlock before slot rest xs nodes parts holds replayed ne out z) =
+    inr (inl (before, slot, rest, xs, nodes, parts, holds, replayed, ne, out, z))
+fault-cases slots n (wrongAddress before slot rest xs more nodes parts holds replayed b f) =
+    inr (inr (before, slot, rest, xs, more, nodes, parts, holds, replayed, b, f))
+
+cases-fault : (slots : List (List ℕ)) (n : ℕ) → FaultCases slots n → Fault slots n
+cases-fault slots n (inl h) = misplaced (h .0) (h .1) (h .3) (h .2) (h .4) (h .5) (h .6) (h .7) (h .8) (h .9) (h .10)
+cases-fault slots n (inr (inl h)) = noBlock (h .0) (h .1) (h .2) (h .3) (h .4) (h .5) (h .6) (h .7) (h .8) (h .9) (h .10)
+cases-fault slots n (inr (inr h)) = wrongAddress (h .0) (h .1) (h .2) (h .3) (h .4) (h .5) (h .6) (h .7) (h .8) (h .9) (h .10)
+
+pub the-slots : TheSlots
+the-slots = record {
+  isLength = λ bytes. (
+    λ l. (l .slots, l .some, l .few, l .whole),
+    λ h. record { slots = h .0; some = h .1; few = h .2; whole = h .3 },
+  );
+  noSlot = unfold slotsOf slotsIn in refl;
+  oneSlot = slotsOf-cons;
+  holdsNone = λ xs. (holds-none xs, λ e. subst (Holds []) (sym e) none);
+  holdsOne = λ slot slots xs. (holds-one slot slots xs, one-holds slot slots xs);
+  noneErased = (λ h. h, λ h. h);
+  allErased = λ slot slots. (λ h. h, λ h. h);
+  nextChild = λ t a. (
+    λ c. (c .node, c .kind, c .stands, c .given, c .child),
+    λ h. record { node = h .0; kind = h .1; stands = h .2; given = h .3; child = h .4 },
+  );
+  isReplayed = λ xs nodes. (
+    λ r. (r .requests, r .addressesGiven, r .theNodes, r .few, r .demand3),
+    λ h. record { requests = h .0; addressesGiven = h .1; theNodes = h .2; few = h .3; demand3 = h .4 },
+  );
+  isFirstFault = λ xs n. (
+    λ f. (f .requests, f .address, f .rest, f .addressesGiven, f .few, f .number),
+    λ h. record { requests = h .0; address = h .1; rest = h .2; addressesGiven = h .3; few = h .4; number = h .5 },
+  );
+  right = λ slots nodes. (
+    λ r. (r .written, r .erased, r .addresses, r .parts, r .holds, r .free, r .replayed, r .inOrder),
+    λ h. record { written = h .0; erased = h .1; addresses = h .2; parts = h .3; holds = h .4; free = h .5; replayed = h .6; inOrder = h .7 },
+  );
+  faults = λ slots n. (fault-cases slots n, cases-fault slots n);
+  writtenNone = λ all. (written-none all, λ e. subst (Written []) (sym e) noneWritten);
+  writtenOne = λ slot slots all. (written-one slot slots all, one-written slot slots all);
+  freeNone = (λ h. h, λ h. h);
+  freeOne = λ slot slots. (λ h. h, λ h. h);
+}
+
+-- ---- the journal
+
+pub the-journal : TheJournal
+unfolding withSlot joined
+the-journal = record {
+  aHall = λ journal words all z.
+      let (nodes, e, same, l) = recoverEnd-without (recovering-end journal words) z in
+      (nodes, right-replayed journal all nodes e, recovers-known journal nodes l e);
+  theSlot = λ journal xs all z.
+      let (first, stored) = write-refusals .without journal xs all z in (
+        first .before,
+        first .erased,
+        first .rest,
+        first .parts,
+        first .place,
+        first .noneBefore,
+        first .free,
+        stored ∙ ap (λ (k : ℕ). withSlot k (block xs) journal) (first .place),
+      );
+  itsPlace = λ slot bytes journal. refl;
+  afterAWrite = λ journal xs all words z. after-write journal xs (record { octets = all; words = words; accepted = z });
+  everyList = round-trip .whole;
+  onward = round-trip .onward;
+  noBlocks = (refl, (λ h. h, λ h. h));
+  blocksOne = λ xs blocks. (refl, (λ h. h, λ h. h));
+  writtenNone = λ journal nodes. (λ h. h, λ h. h);
+  writtenOne = λ journal nodes xs blocks. (λ h. h, λ h. h);
+}
+
+-- ---- the power cut
+
+pub the-power-cut : ThePowerCut
+unfolding storedAt
+the-power-cut = record {
+  noPlace = λ slot new old. refl;
+  onePlace = λ slot place places new old. refl;
+  places = length-upTo 512;
+  placed = λ k h. getD-upTo k 512 h;
+  stateBefore = λ journal xs all words z.
+      let accepts : Accepts writing journal xs = record { octets = all; words = words; accepted = z } in
+      let (nodes, before) = power-cut .stands journal xs accepts in (
+        nodes,
+        before,
+        λ k h. power-cut .before journal xs nodes k accepts before h,
+        subst (λ (places : List ℕ). RecoversTo (storedAt (writing journal xs .answer .slot) places (writing journal xs .journal) journal) (nodes ++ xs))
+            (take-all 512 inOrder (omega (arith, length-upTo 512)))
+            (power-cut .after journal xs nodes accepts before),
+      );
+}
+
+-- ---- a node's record
+
+module _ (a w : ℕ) (words : List ℕ) where
+  children-router : parent w ≡ a → isHost w ≡ false → children Router a (w ∷ words) ≡ suc (children Router a words)
+  unfolding children isKind
+  children-router e h = rw (eq-eqb (parent w) a e, h) refl
+
+  children-host : parent w ≡ a → isHost w ≡ true → children Host a (w ∷ words) ≡ suc (children Host a words)
+  unfolding children isKind
+  children-host e h = rw (eq-eqb (parent w) a e, h) refl
+
+  children-other : (kind : Kind) → (eqb (parent w) a && isKind kind w) ≡ false → children kind a (w ∷ words) ≡ children kind a words
+  unfolding children
+  children-other kind e = rw e refl
+
+  no-kind : (kind : Kind) → (parent w ≡ a → ⊥) ⊎ (isKind kind w ≡ false) → (eqb (parent w) a && isKind kind w) ≡ false
+  no-kind kind (inl ne) = rw (ne-eqb (parent w) a ne) refl
+  no-kind kind (inr e) = rw e (and-false (eqb (parent w) a))
+
+  no-router : (parent w ≡ a → ⊥) ⊎ (isHost w ≡ true) → (parent w ≡ a → ⊥) ⊎ (isKind Router w ≡ false)
+  unfolding isKind
+  no-router (inl ne) = inl ne
+  no-router (inr e) = inr (ap not e)
+
+  no-host : (parent w ≡ a → ⊥) ⊎ (isHost w ≡ false) → (parent w ≡ a → ⊥) ⊎ (isKind Host w ≡ false)
+  unfolding isKind
+  no-host (inl ne) = inl ne
+  no-host (inr e) = inr e
+
+pub the-record : TheRecord
+the-record = record {
+  found = found-exactly;
+  itsCounts = found-counts;
+  notFound = node-notFound;
+  noWord = λ kind a. (unfold children in refl);
+  aRouter = children-router;
+  aHost = children-host;
+  noRouter = λ a w words h. children-other a w words Router (no-kind a w words Router (no-router a w words h));
+  noHost = λ a w words h. children-other a w words Host (no-kind a w words Host (no-host a w words h));
+  ofATree = λ rs zeros a n e. let r = records .found rs zeros a n e in (r .0, r .2);
+  noNode = records .absent;
+}
