@@ -18,6 +18,7 @@ use Rattle.crc.specs.Checks.{remainder}
 use Rattle.crc.proofs.ShiftLaws.{crc-fits}
 use Rattle.crc.proofs.Table.{table-rule}
 use Rattle.crc.proofs.Known.{known-checks}
+use Rattle.crc.proofs.WrongChecks.{wrong-checks}
 use Rattle.block.specs.Block.{spread, content, block}
 use Rattle.block.specs.Blocks.{AreWords, IsBlockOf}
 use Rattle.block.proofs.Theorem.{blocks}
@@ -37,7 +38,9 @@ use Rattle.journals.proofs.Cuts.{length-upTo, getD-upTo, power-cut}
 use Rattle.journals.proofs.RoundTrips.{round-trip}
 use Rattle.journals.proofs.Finding.{found-exactly, found-counts, node-notFound}
 use Rattle.journals.proofs.Theorem.{records}
-use Rattle.claims.specs.Journals.{TheCheck, TheBlock, TheSlots, JournalRefusals, RecoversTo, TheJournal, ThePowerCut, TheRecord}
+use Rattle.journals.proofs.OneRule.{one-recovery, one-writer}
+use Rattle.journals.proofs.WrongWriters.{wrong-writers-excluded}
+use Rattle.claims.specs.Journals.{TheCheck, TheBlock, TheSlots, JournalRefusals, RecoversTo, TheJournal, ThePowerCut, TheRecord, OneJournalRule, WrongJournalRules}
 
 pub the-check : TheCheck
 unfolding bit movedUp shiftIn shiftBits shiftOctet crcFrom crc remainder
@@ -275,4 +278,26 @@ the-record = record {
   noHost = λ a w words h. children-other a w words Host (no-kind a w words Host (no-host a w words h));
   ofATree = λ rs zeros a n e. let r = records .found rs zeros a n e in (r .0, r .2);
   noNode = records .absent;
+}
+
+-- ---- one rule, and wrong ones
+
+pub one-journal-rule : OneJournalRule
+one-journal-rule = record { toRecover = one-recovery .only; ours = recover-refusals; toWrite = one-writer .only; oursToo = write-refusals }
+
+pub wrong-journal-rules : WrongJournalRules
+wrong-journal-rules = record {
+  lastByteFirst = wrong-writers-excluded .lastByteFirst;
+  noCheck = wrong-writers-excluded .noCheck;
+  anotherBlock = wrong-writers-excluded .anotherBlock;
+  nothingWritten = wrong-writers-excluded .nothingWritten;
+  tornTaken = wrong-writers-excluded .tornTaken;
+  allRefused = wrong-writers-excluded .allRefused;
+  lastErased = wrong-writers-excluded .lastErased;
+  zeroStart = wrong-checks .zeroStart;
+  otherPolynomial = wrong-checks .otherPolynomial;
+  lowBit = wrong-checks .lowBit;
+  lowHalf = wrong-checks .lowHalf;
+  inverted = wrong-checks .inverted;
+  lastHalf = wrong-checks .lastHalf;
 }

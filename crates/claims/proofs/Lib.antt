@@ -2,3 +2,4 @@
 mod Lines
 mod PlanLines
 mod JournalLines
+mod JournalCodeLines

@@ -19,6 +19,8 @@ use Rattle.tree.specs.Tree.{Request, Tree, standing, recordOf, grown, givenIn, 
 use Rattle.tree.specs.Demand3.{Demand3}
 use Rattle.crc.specs.Crc.{bit, movedUp, shiftIn, shiftBits, shiftOctet, crcFrom, crc}
 use Rattle.crc.specs.Checks.{remainders, remainder}
+use Rattle.crc.specs.Known.{nine}
+use Rattle.crc.specs.WrongChecks.{startingAtZero, ofPolynomial8005, lowBitFirst, lowHalfFirst, invertedAtEnd, withoutLastHalf}
 use Rattle.block.specs.Block.{spread, block}
 use Rattle.block.specs.Blocks.{AreWords, IsBlockOf}
 use Rattle.journal.specs.Slots.{slotsOf}
@@ -27,8 +29,9 @@ use Rattle.journal.specs.Writing.{withSlot, writing}
 use Rattle.journal.specs.Record.{children, recordIn}
 use Rattle.journals.specs.Replays.{IsNextChild, IsReplayed, IsFirstFault}
 use Rattle.journals.specs.Slots.{IsLength, Holds, AllErased, Right, Fault}
-use Rattle.journals.specs.Refusals.{Written, NoneErased}
-use Rattle.journals.specs.PowerCuts.{storedAt, inOrder}
+use Rattle.journals.specs.Refusals.{RecoverRule, RecoverRefusals, WriteRule, WriteRefusals, Written, NoneErased}
+use Rattle.journals.specs.PowerCuts.{AfterWrite, storedAt, inOrder, PowerCut}
+use Rattle.journals.specs.WrongWriters.{unchecked, overTorn, otherBlock, idle, refusesAll, lastSlot}
 use Rattle.journals.specs.RoundTrip.{joined, AreBlocks, AllWritten}
 
 -- "a CRC-16 of bytes 0 to 508 (polynomial 0x1021, start 0xFFFF, high bit first, nothing reversed or added at the end)"
@@ -226,3 +229,31 @@ pub record TheRecord : Type 0 where
       × ((kind : Kind) → count kind (recordIn (addresses (grown childOf rs) ++ replicate zeros 0) a .node) ≡ count kind n)
   pub noNode : (rs : List Request) (zeros a : ℕ)
       → (recordIn (addresses (grown childOf rs) ++ replicate zeros 0) a .found ≡ false) ↔ (InTree a (grown childOf rs) → ⊥)
+
+-- the refusals, with what is left beside them and without them, leave one recovery and one writer: whatever answers or leaves otherwise anywhere is
+-- excluded
+pub record OneJournalRule : Type 0 where
+  pub toRecover : (rule : RecoverRule) → RecoverRefusals rule → (journal words : List ℕ) → AreOctets journal → rule journal words ≡ recovering journal words
+  pub ours : RecoverRefusals recovering
+  pub toWrite : (rule : WriteRule) → WriteRefusals rule → (journal xs : List ℕ) → AreOctets journal → AreWords xs → rule journal xs ≡ writing journal xs
+  pub oursToo : WriteRefusals writing
+
+-- some that are
+pub record WrongJournalRules : Type 0 where
+  -- an order of bytes that has the last one first, whatever follows
+  pub lastByteFirst : (rest : List ℕ) → PowerCut (511 ∷ rest) writing recovering → ⊥
+  -- a writer that skips the check of the block's addresses, that puts another right block there, that writes nothing
+  pub noCheck : AfterWrite unchecked recovering → ⊥
+  pub anotherBlock : AfterWrite otherBlock recovering → ⊥
+  pub nothingWritten : AfterWrite idle recovering → ⊥
+  -- one that takes a torn slot for erased, that refuses everything, that takes the last erased slot
+  pub tornTaken : WriteRefusals overTorn → ⊥
+  pub allRefused : WriteRefusals refusesAll → ⊥
+  pub lastErased : WriteRefusals lastSlot → ⊥
+  -- a check that starts at 0, by another polynomial, low bit first, low half octet first, inverted at the end, without the last half octet
+  pub zeroStart : startingAtZero nine ≡ 0x29B1 → ⊥
+  pub otherPolynomial : ofPolynomial8005 nine ≡ 0x29B1 → ⊥
+  pub lowBit : lowBitFirst nine ≡ 0x29B1 → ⊥
+  pub lowHalf : lowHalfFirst nine ≡ 0x29B1 → ⊥
+  pub inverted : invertedAtEnd nine ≡ 0x29B1 → ⊥
+  pub lastHalf : withoutLastHalf nine ≡ 0x29B1 → ⊥

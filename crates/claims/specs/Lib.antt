@@ -24,3 +24,5 @@ pub mod Code
 pub mod Structs
 -- and what the archive's exports promise
 pub mod Exports
+-- and what the code of request Four promises
+pub mod JournalCode

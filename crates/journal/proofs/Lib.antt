@@ -5,7 +5,7 @@ mod AmongLaws
 mod FollowLaws
 mod ReadLaws
 mod SlotLaws
-pub mod CountLaws
+mod CountLaws
 mod StepLaws
 mod RunLaws
 mod EndLaws

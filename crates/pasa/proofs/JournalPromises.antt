@@ -4,14 +4,17 @@ use mathlib.Core.List.{List}
 use Prim.Native.Nat.{ℕ}
 use contract.Lifetimes.{Lfts}
 use denote.Ref.{RefT, now}
+use Rattle.node.specs.declared.Node.{Node}
 use Rattle.crc.specs.Crc.{crc}
 use Rattle.journal.specs.Record.{recordIn}
 use Rattle.journal.specs.Recovery.{recovering}
 use Rattle.journal.specs.Writing.{writing}
+use Rattle.pasa.specs.Children.{PasaNode, pasaNode}
 use Rattle.pasa.specs.Journals.{pasaBlock, pasaRecovered, pasaRecord}
 use Rattle.pasa.specs.declared.journals.PasaBlock.{PasaBlock}
 use Rattle.pasa.specs.declared.journals.PasaRecovered.{PasaRecovered}
 use Rattle.pasa.specs.declared.journals.PasaRecord.{PasaRecord}
+use Rattle.pasa.proofs.children.pasa_node.Reads as node-reads
 use Rattle.pasa.proofs.journals.pasa_journal_write.Reads as write-reads
 use Rattle.pasa.proofs.journals.pasa_journal_recover.Reads as recover-reads
 use Rattle.pasa.proofs.journals.pasa_journal_record.Reads as record-reads
@@ -20,6 +23,9 @@ use Rattle.pasa.proofs.journals.pasa_crc.Reads as crc-reads
 -- a lent slice
 abbrev Slice : Type 0
 Slice = RefT (List ℕ)
+
+pub node-promise : (n : Node) (r : PasaNode) → node-reads.Learnt tt (n, tt) r (n, tt) → r ≡ pasaNode n
+node-promise n r h = h
 
 pub journal-write-promise : (κs : Lfts 2) (journal addresses last : Slice) (r : PasaBlock)
     → write-reads.Learnt κs (journal, (addresses, tt)) r (last, (addresses, tt))
@@ -39,6 +45,9 @@ pub crc-promise : (κs : Lfts 1) (octets : Slice) (r : ℕ) → crc-reads.Learnt
 crc-promise κs octets r h = h
 
 -- ---- none of them asks anything of its caller
+
+pub node-asks-nothing : (n : Node) → node-reads.Asked tt (n, tt)
+node-asks-nothing n = tt
 
 pub journal-write-asks-nothing : (κs : Lfts 2) (journal addresses : Slice) → write-reads.Asked κs (journal, (addresses, tt))
 journal-write-asks-nothing κs journal addresses = tt

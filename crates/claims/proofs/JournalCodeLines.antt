@@ -1,0 +1,54 @@
+-- The front page's lines on the code of request Four, each quoted from the function's own contract. Assumes nothing.
+use mathlib.Core.Path.{refl}
+use Rattle.node.proofs.Promises.{with-counts-promise, with-counts-asks-nothing}
+use Rattle.crc.proofs.Promises.{crc-promise, crc-asks-nothing}
+use Rattle.block.proofs.Promises.{all-are-promise, all-are-asks-nothing, is-block-promise, is-block-asks-nothing, put-promise, put-asks-nothing}
+use Rattle.journal.proofs.Promises.{recover-asks-nothing, write-asks-nothing, record-in-promise, record-in-asks-nothing}
+use Rattle.pasa.specs.Journals.{pasaBlock, pasaRecovered, pasaRecord, bit}
+use Rattle.pasa.proofs.JournalPromises.{node-promise, node-asks-nothing, journal-write-promise, journal-write-asks-nothing}
+use Rattle.pasa.proofs.JournalPromises.{journal-recover-promise, journal-recover-asks-nothing, journal-record-promise, journal-record-asks-nothing}
+use Rattle.pasa.proofs.JournalPromises.{crc-promise as pasa-crc-promise, crc-asks-nothing as pasa-crc-asks-nothing}
+use Rattle.claims.specs.JournalCode.{JournalAsksNothing, JournalAnswersAsDefined, JournalFields}
+
+pub journal-asks-nothing : JournalAsksNothing
+journal-asks-nothing = record {
+  nodeWithCounts = with-counts-asks-nothing;
+  crcOf = crc-asks-nothing;
+  blockAllAre = all-are-asks-nothing;
+  blockIsBlock = is-block-asks-nothing;
+  blockPutIn = put-asks-nothing;
+  journalRecover = recover-asks-nothing;
+  journalWrite = write-asks-nothing;
+  journalRecord = record-in-asks-nothing;
+  pasaNodeTo = node-asks-nothing;
+  pasaJournalWrite = journal-write-asks-nothing;
+  pasaJournalRecover = journal-recover-asks-nothing;
+  pasaJournalRecord = journal-record-asks-nothing;
+  pasaCrc = pasa-crc-asks-nothing;
+}
+
+pub journal-answers-as-defined : JournalAnswersAsDefined
+journal-answers-as-defined = record {
+  nodeWithCounts = with-counts-promise;
+  crcOf = crc-promise;
+  blockAllAre = all-are-promise;
+  blockIsBlock = is-block-promise;
+  blockPutIn = put-promise;
+  journalRecover = λ κs journal words words′ r h. h;
+  journalWrite = λ κs journal xs journal′ r h. h;
+  journalRecord = record-in-promise;
+  pasaNodeTo = node-promise;
+  pasaJournalWrite = journal-write-promise;
+  pasaJournalRecover = journal-recover-promise;
+  pasaJournalRecord = journal-record-promise;
+  pasaCrc = pasa-crc-promise;
+}
+
+pub journal-fields : JournalFields
+unfolding pasaBlock pasaRecovered pasaRecord bit
+journal-fields = record {
+  block = λ p. refl;
+  recovered = λ r. refl;
+  itsRecord = λ r. refl;
+  yesAndNo = (refl, refl);
+}
