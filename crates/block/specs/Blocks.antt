@@ -1,4 +1,4 @@
--- What is claimed of blocks: "What we write reads back as itself; what we accept is what we would have written."
+-- What is claimed of blocks, as of headers in demand 2: what is written reads back as itself, and what is accepted is what would have been written.
 use Prim.Native.Nat.{ℕ, _^_, _<_, _≤_}
 use mathlib.Core.Path.{_≡_}
 use mathlib.Core.Bool.{true, false}

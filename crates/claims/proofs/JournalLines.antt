@@ -1,7 +1,7 @@
 -- The front page's lines on a journal, each taken from the record that carries it. Assumes nothing.
 use Prim.Native.Nat.{ℕ, zero, suc, min, _+_, _*_, _-_, _/_, _%_, _^_, _<_, _≤_}
 use mathlib.Core.Path.{_≡_, refl, sym, ap, ap₂, subst, _∙_}
-use mathlib.Core.Bool.{true, false, not, _&&_, and-false}
+use mathlib.Core.Bool.{Bool, true, false, not, _&&_, and-false}
 use mathlib.Core.Logic.{_⊎_, inl, inr, ⊎-elim, _↔_}
 use mathlib.Core.List.{List, [], _∷_, _++_, List·Memᴰ}
 use native.Mathlib.Omega.{arith}
@@ -15,14 +15,18 @@ use Rattle.address.specs.declared.Kind.the-variants.{Router, Host}
 use Rattle.octets.specs.Octets.{AreOctets}
 use Rattle.crc.specs.Crc.{bit, movedUp, shiftIn, shiftBits, shiftOctet, crcFrom, crc}
 use Rattle.crc.specs.Checks.{remainder}
-use Rattle.crc.proofs.ShiftLaws.{crc-fits}
-use Rattle.crc.proofs.Table.{table-rule}
+use Rattle.crc.proofs.ShiftLaws.{crc-fits, halves}
+use Rattle.crc.proofs.Table.{table-rule, by-table}
 use Rattle.crc.proofs.Known.{known-checks}
 use Rattle.crc.proofs.WrongChecks.{wrong-checks}
-use Rattle.block.specs.Block.{spread, content, block}
+use Rattle.address.specs.Choice.{if_then_else_}
+use Rattle.block.specs.Block.{spread, content, block, isCount, blockPut, addressesIn, isBlock}
 use Rattle.block.specs.Blocks.{AreWords, IsBlockOf}
+use Rattle.block.proofs.Cases.{isCount-true, true-isCount}
+use Rattle.block.proofs.Laws.{allAre-replicate}
 use Rattle.block.proofs.Theorem.{blocks}
-use Rattle.journal.specs.Slots.{slotsIn, slotsOf}
+use Rattle.journal.specs.Replay.{Replay, known, fault}
+use Rattle.journal.specs.Slots.{slotsIn, slotsOf, replayed}
 use Rattle.journal.specs.Recovery.{recovering}
 use Rattle.journal.specs.Writing.{withSlot, writing}
 use Rattle.journal.specs.Record.{isKind, children}
@@ -31,14 +35,17 @@ use Rattle.journals.specs.Slots.{Right, Holds, none, torn, block as aBlock, Fau
 use Rattle.journals.specs.Refusals.{Written, none as noneWritten, skipped, kept}
 use Rattle.journals.specs.PowerCuts.{Accepts, storedAt, inOrder}
 use Rattle.journals.specs.RoundTrip.{joined}
-use Rattle.journals.proofs.Recovering.{recover-refusals, recoverEnd-without, recovering-end, right-replayed, recovers-known}
+use Rattle.journals.proofs.Recovering.{recover-refusals, recoverEnd-without, recovering-end, right-replayed, fault-replayed, recovers-known}
+use Rattle.journals.proofs.Recovering.{known-no-fault, one-fault, fault-number}
+use Rattle.journals.proofs.SlotOutcomes.{replay-known, replay-fault-exactly}
+use Rattle.journals.proofs.Lengths.{slots-slotsOf}
 use Rattle.journals.proofs.Writing.{write-refusals}
 use Rattle.journals.proofs.AfterWrites.{after-write}
 use Rattle.journals.proofs.Cuts.{length-upTo, getD-upTo, power-cut}
 use Rattle.journals.proofs.RoundTrips.{round-trip}
 use Rattle.journals.proofs.Finding.{found-exactly, found-counts, node-notFound}
 use Rattle.journals.proofs.Theorem.{records}
-use Rattle.journals.proofs.OneRule.{one-recovery, one-writer}
+use Rattle.journals.proofs.OneRule.{right-once, one-recovery, one-writer}
 use Rattle.journals.proofs.WrongWriters.{wrong-writers-excluded}
 use Rattle.claims.specs.Journals.{TheCheck, TheBlock, TheSlots, JournalRefusals, RecoversTo, TheJournal, ThePowerCut, TheRecord, OneJournalRule, WrongJournalRules}
 
@@ -59,8 +66,28 @@ the-check = record {
   sixteen = table-rule .sixteen;
   table = table-rule .each;
   entry = λ half. refl;
+  byTable = λ register half h. sym (by-table register half h);
+  byHalves = λ register o. sym (halves register o);
   nine = known-checks .ofNine;
 }
+
+tested-back : (slot : List ℕ) → AreOctets slot → (xs : List ℕ) → IsBlockOf xs slot → isBlock slot ≡ true
+tested-back slot all xs b =
+    blocks .exactly slot all .1 (subst (λ (ys : List ℕ). IsBlockOf ys slot) (blocks .only xs slot b) b)
+
+blockPut-whole : (xs slot : List ℕ) → length slot ≡ 512 → 1 ≤ length xs → length xs ≤ 63 → blockPut xs slot ≡ block xs
+unfolding blockPut
+blockPut-whole xs slot e some few = rw (eq-eqb (length slot) 512 e, isCount-true (length xs) (some, few)) refl
+
+blockPut-not : (xs slot : List ℕ) → (length slot ≡ 512 → ⊥) ⊎ ((1 ≤ length xs) × (length xs ≤ 63) → ⊥) → blockPut xs slot ≡ slot
+unfolding blockPut
+blockPut-not xs slot (inl ne) = rw (ne-eqb (length slot) 512 ne) refl
+blockPut-not xs slot (inr out) = go (eqb (length slot) 512) (isCount (length xs)) refl
+  where
+    go : (whole count : Bool) → isCount (length xs) ≡ count → (if whole && count then block xs else slot) ≡ slot
+    go false count e = refl
+    go true false e = refl
+    go true true e = absurd (out (true-isCount (length xs) e))
 
 pub the-block : TheBlock
 unfolding spread content block
@@ -74,6 +101,10 @@ the-block = record {
     λ h. record { words = h .0; count = (h .1, h .2); bytes = h .3 },
   );
   noOther = λ xs ys slot b c. blocks .only xs slot b ∙ sym (blocks .only ys slot c);
+  tested = λ slot all. (λ e. (addressesIn slot, blocks .exactly slot all .0 e), λ h. tested-back slot all (h .0) (h .1));
+  alike = allAre-replicate;
+  put = λ xs slot e some few. blockPut-whole xs slot e some few;
+  notPut = blockPut-not;
   noWord = (λ h. h, λ h. h);
   oneWord = λ a xs. (λ h. h, λ h. h);
 }
@@ -152,6 +183,23 @@ cases-fault slots n (inl h) = misplaced (h .0) (h .1) (h .3) (h .2) (h .4) (h .5
 cases-fault slots n (inr (inl h)) = noBlock (h .0) (h .1) (h .2) (h .3) (h .4) (h .5) (h .6) (h .7) (h .8) (h .9) (h .10)
 cases-fault slots n (inr (inr h)) = wrongAddress (h .0) (h .1) (h .2) (h .3) (h .4) (h .5) (h .6) (h .7) (h .8) (h .9) (h .10)
 
+right-known : (journal nodes : List ℕ) → AreOctets journal → Right (slotsOf journal) nodes → replayed journal ≡ known nodes
+unfolding replayed
+right-known journal nodes all right = replay-known (slotsOf journal) nodes (slots-slotsOf journal all) .1 right
+
+fault-known : (journal : List ℕ) (n : ℕ) → AreOctets journal → Fault (slotsOf journal) n → replayed journal ≡ fault n
+unfolding replayed
+fault-known journal n all f = replay-fault-exactly (slotsOf journal) n (slots-slotsOf journal all) .1 f
+
+one-or-other : (journal : List ℕ) → AreOctets journal
+    → ((nodes : List ℕ) × Right (slotsOf journal) nodes) ⊎ ((n : ℕ) × ((n ≡ 14) ⊎ (n ≡ 17)) × Fault (slotsOf journal) n)
+one-or-other journal all = go (replayed journal) refl
+  where
+    go : (r : Replay) → replayed journal ≡ r
+        → ((nodes : List ℕ) × Right (slotsOf journal) nodes) ⊎ ((n : ℕ) × ((n ≡ 14) ⊎ (n ≡ 17)) × Fault (slotsOf journal) n)
+    go (known nodes) e = inl (nodes, right-replayed journal all nodes e)
+    go (fault n) e = inr (n, fault-number journal n e, fault-replayed journal all n e)
+
 pub the-slots : TheSlots
 the-slots = record {
   isLength = λ bytes. (
@@ -181,6 +229,10 @@ the-slots = record {
     λ h. record { written = h .0; erased = h .1; addresses = h .2; parts = h .3; holds = h .4; free = h .5; replayed = h .6; inOrder = h .7 },
   );
   faults = λ slots n. (fault-cases slots n, cases-fault slots n);
+  oneOrOther = one-or-other;
+  notBoth = λ journal nodes n all right f. known-no-fault journal all nodes n (right-known journal nodes all right) f;
+  oneFault = λ journal n m all f g. one-fault journal all n (fault-known journal n all f) m g;
+  oneTree = right-once;
   writtenNone = λ all. (written-none all, λ e. subst (Written []) (sym e) noneWritten);
   writtenOne = λ slot slots all. (written-one slot slots all, one-written slot slots all);
   freeNone = (λ h. h, λ h. h);

@@ -21,7 +21,7 @@ use Rattle.crc.specs.Crc.{bit, movedUp, shiftIn, shiftBits, shiftOctet, crcFrom
 use Rattle.crc.specs.Checks.{remainders, remainder}
 use Rattle.crc.specs.Known.{nine}
 use Rattle.crc.specs.WrongChecks.{startingAtZero, ofPolynomial8005, lowBitFirst, lowHalfFirst, invertedAtEnd, withoutLastHalf}
-use Rattle.block.specs.Block.{spread, block}
+use Rattle.block.specs.Block.{spread, block, blockPut, allAre, isBlock}
 use Rattle.block.specs.Blocks.{AreWords, IsBlockOf}
 use Rattle.journal.specs.Slots.{slotsOf}
 use Rattle.journal.specs.Recovery.{RecoverEffect, recovering}
@@ -53,6 +53,10 @@ pub record TheCheck : Type 0 where
   pub sixteen : length remainders ≡ 16
   pub table : (half : ℕ) → half < 16 → getD remainders half 0 ≡ remainder half
   pub entry : (half : ℕ) → remainder half ≡ shiftBits 4 (half * 4096) 0
+  -- four bits at once by the table, and an octet by its two halves, the high one first
+  pub byTable : (register half : ℕ) → half < 16
+      → shiftBits 4 register half ≡ bitXor (register * 16 % 65536) (remainder (bitXor (register / 4096) half))
+  pub byHalves : (register o : ℕ) → shiftOctet register o ≡ shiftBits 4 (shiftBits 4 register (o / 16)) (o % 16)
   -- the check value of this CRC, of "123456789"
   pub nine : crc (49 ∷ 50 ∷ 51 ∷ 52 ∷ 53 ∷ 54 ∷ 55 ∷ 56 ∷ 57 ∷ []) ≡ 0x29B1
 
@@ -68,6 +72,11 @@ pub record TheBlock : Type 0 where
   -- "a right block": the block of one list of 64-bit numbers, 1 to 63 of them
   pub isBlockOf : (xs slot : List ℕ) → IsBlockOf xs slot ↔ (AreWords xs × (1 ≤ length xs) × (length xs ≤ 63) × (slot ≡ block xs))
   pub noOther : (xs ys slot : List ℕ) → IsBlockOf xs slot → IsBlockOf ys slot → xs ≡ ys
+  -- the test is right about all octets, and so is the one that all bytes are one; a block is put into a whole slot, or nothing is
+  pub tested : (slot : List ℕ) → AreOctets slot → (isBlock slot ≡ true) ↔ ((xs : List ℕ) × IsBlockOf xs slot)
+  pub alike : (o : ℕ) (bytes : List ℕ) → (allAre o bytes ≡ true) ↔ (bytes ≡ replicate (length bytes) o)
+  pub put : (xs slot : List ℕ) → length slot ≡ 512 → 1 ≤ length xs → length xs ≤ 63 → blockPut xs slot ≡ block xs
+  pub notPut : (xs slot : List ℕ) → (length slot ≡ 512 → ⊥) ⊎ ((1 ≤ length xs) × (length xs ≤ 63) → ⊥) → blockPut xs slot ≡ slot
   pub noWord : AreWords [] ↔ Unit {0}
   pub oneWord : (a : ℕ) (xs : List ℕ) → AreWords (a ∷ xs) ↔ ((a < 2 ^ 64) × AreWords xs)
 
@@ -116,6 +125,12 @@ pub record TheSlots : Type 0 where
       × Holds before xs × IsReplayed xs nodes × (getD slot 511 0 ≡ 0xFF → ⊥) × ((more : List ℕ) → IsBlockOf more slot → ⊥) × (n ≡ 17))
       ⊎ ((before : List (List ℕ)) × (slot : List ℕ) × (rest : List (List ℕ)) × (xs : List ℕ) × (more : List ℕ) × (nodes : List ℕ)
       × (slots ≡ before ++ slot ∷ rest) × Holds before xs × IsReplayed xs nodes × IsBlockOf more slot × IsFirstFault (xs ++ more) n))
+  -- every journal is right or has a fault, never both, and one of each: of 14 and 17 one comes first
+  pub oneOrOther : (journal : List ℕ) → AreOctets journal
+      → ((nodes : List ℕ) × Right (slotsOf journal) nodes) ⊎ ((n : ℕ) × ((n ≡ 14) ⊎ (n ≡ 17)) × Fault (slotsOf journal) n)
+  pub notBoth : (journal nodes : List ℕ) (n : ℕ) → AreOctets journal → Right (slotsOf journal) nodes → Fault (slotsOf journal) n → ⊥
+  pub oneFault : (journal : List ℕ) (n m : ℕ) → AreOctets journal → Fault (slotsOf journal) n → Fault (slotsOf journal) m → n ≡ m
+  pub oneTree : (journal xs ys : List ℕ) → AreOctets journal → Right (slotsOf journal) xs → Right (slotsOf journal) ys → xs ≡ ys
   -- the slots that are not erased, in order
   pub writtenNone : (kept : List (List ℕ)) → Written [] kept ↔ (kept ≡ [])
   pub writtenOne : (slot : List ℕ) (slots kept : List (List ℕ))

@@ -1,5 +1,5 @@
 -- The check of a block: "a CRC-16 of bytes 0 to 508 (polynomial 0x1021, start 0xFFFF, high bit first, nothing reversed or added at the end)". It
--- is defined here bit by bit, from the polynomial, for any octets; the table of the code is a law (specs/Checks.antt).
+-- is defined here bit by bit, from the polynomial, for any octets; specs/Checks.antt has the table of the code, and that four bits at once go by it.
 use Prim.Native.Nat.{ℕ, zero, suc, _*_, _/_, _%_, _^_}
 use mathlib.Core.List.{List, [], _∷_}
 use lib.Dec.{eqb}

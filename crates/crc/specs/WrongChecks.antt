@@ -51,7 +51,7 @@ lowHalfFirst os = crcFromBy (λ register o. shiftBits 4 (shiftBits 4 register (o
 unfoldable pub invertedAtEnd : List ℕ → ℕ
 invertedAtEnd os = bitXor (crc os) 0xFFFF
 
--- ---- "bytes 0 to 508"
+-- ---- to the end
 
 -- of the last octet only the high half goes in
 unfoldable pub lastHalfOut : ℕ → List ℕ → ℕ

@@ -7,9 +7,9 @@ mod ReadLaws
 mod SlotLaws
 mod CountLaws
 mod StepLaws
-mod RunLaws
-mod EndLaws
-mod RecoverLaws
+pub mod RunLaws
+pub mod EndLaws
+pub mod RecoverLaws
 mod JudgeLaws
 mod WriteLaws
 mod CountingLaws

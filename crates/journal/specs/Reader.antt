@@ -1,17 +1,18 @@
--- One slot at a time: what is handed from slot to slot, and the reader that keeps hold of the journal. From the first slot on, asked until it is
--- done, it comes to what recovery comes to; what it answers from any other state is left open by the request, and here fixed.
-use Prim.Native.Nat.{ℕ, zero, suc, _+_, _*_}
+-- One slot at a time, with a place counter: what is handed from slot to slot. From the first slot on, asked until it is done, and with what recovery
+-- checks before it (`unfit`) and clears behind it (`finished`), this is recovery; the crate reader says so of a reader that keeps hold of the
+-- journal. What is answered from any other state is left open by the request, and here fixed.
+use Prim.Native.Nat.{ℕ, zero, suc, _+_, _*_, _-_}
 use mathlib.Core.Bool.{Bool, true, false, _||_}
 use mathlib.Core.List.{List, _∷_, _++_}
 use lib.ListN.{length, take, drop, replicate, set}
-use lib.Dec.{leb, ltb}
-use denote.Ref.{RefT, now}
+use lib.Dec.{eqb, leb, ltb}
 use Rattle.address.specs.Choice.{if_then_else_}
 use Rattle.address.specs.Bits.{root}
 use Rattle.block.specs.Block.{slotBytes}
 use Rattle.journal.specs.Limits.{mostNodes}
 use Rattle.journal.specs.Replay.{Replay, known, fault}
 use Rattle.journal.specs.Slots.{slotCount, isErased, slotTaken}
+use Rattle.journal.specs.Recovery.{RecoverEffect, refuseRecovery}
 pub use Rattle.journal.specs.declared.Progress.{Progress}
 
 -- the numbers, and the words beside them
@@ -71,3 +72,13 @@ from words = record { progress = first; words = words }
 
 unfoldable pub begin : List ℕ → State
 begin words = from (set words 0 root)
+
+-- what recovery answers from the last of the states: zeros behind the nodes known, or the fault
+unfoldable pub finished : Progress → List ℕ → RecoverEffect
+finished end words =
+    if eqb (end .refusal) 0
+    then record {
+      answer = record { refusal = 0; nodes = end .nodes };
+      words = take (end .nodes) words ++ replicate (length words - end .nodes) 0;
+    }
+    else refuseRecovery (end .refusal) words

@@ -16,6 +16,11 @@ pub use Rattle.journal.specs.declared.Recovered.{Recovered}
 unfoldable pub isLength : ℕ → Bool
 isLength bytes = eqb (bytes % slotBytes) 0 && leb slotBytes bytes && leb bytes (mostSlots * slotBytes)
 
+-- "Recovery first checks the length (12), then that at least 512 words are lent (10)": the refusal of so many bytes and words, 0 where neither is
+-- wrong
+unfoldable pub unfit : ℕ → ℕ → ℕ
+unfit bytes words = if not (isLength bytes) then 12 else if ltb words mostNodes then 10 else 0
+
 -- What recovery comes to: the answer, and what the lent words hold at the end.
 pub record RecoverEffect : Type 0 where
   pub answer : Recovered

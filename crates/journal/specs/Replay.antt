@@ -14,8 +14,8 @@ unfoldable pub among : ℕ → List ℕ → Bool
 among a [] = false
 among a (b ∷ bs) = eqb b a || among a bs
 
--- the address that is given last before this one may be: the child before it, of the same node and kind; or that node, where it is the first
--- child of its kind. It drops one of the ones before the last bit of a router, the last bit of a host.
+-- the address that was given last where this one is given next: the child before it, of the same node and kind; or that node, where it is the
+-- first child of its kind. A host loses its last bit. A router loses its last bit where it is the first, and else the last of its ones.
 unfoldable pub before : ℕ → ℕ
 before a = if eqb (a % 2) 1 || eqb (a / 2) root || eqb (a / 2 % 2) 0 then a / 2 else a / 2 - 1
 

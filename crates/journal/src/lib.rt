@@ -14,9 +14,9 @@ ghost use Rattle.journal.specs.Limits.{mostNodes};
 ghost use Rattle.journal.specs.Replay.{before, isNext, taken, follow, known};
 ghost use Rattle.journal.specs.Record.{children, mostCounted, recordIn};
 ghost use Rattle.journal.specs.Slots.{slotCount, notErased};
-ghost use Rattle.journal.specs.Recovery.{isLength, recovering};
+ghost use Rattle.journal.specs.Recovery.{isLength, unfit, recovering};
 ghost use Rattle.journal.specs.Follows.{Follows};
-ghost use Rattle.journal.specs.Reader.{step, run, begin};
+ghost use Rattle.journal.specs.Reader.{step, run, begin, finished};
 ghost use Rattle.journal.specs.Writing.{judging, writing};
 
 // Refusals: "the journal's length is wrong or n is outside 1 to 63"; "at least 512 words are lent" and "no slot is erased"; "a 513th node";
@@ -99,7 +99,7 @@ fn is_next(address: u64, known: &[u64]) -> bool
     ready & !given
 }
 
-fn refuse(number: u8) -> Recovered
+pub fn refuse(number: u8) -> Recovered
     ensures { λ r. ⌜ r ≡ record { refusal = number; nodes = 0 } ⌝ }
 {
     Recovered {
@@ -145,7 +145,6 @@ fn follow(addresses: &[u64], nodes: usize, words: &mut [u64]) -> Recovered
 
 // Zeros from a place to the end.
 fn clear(from: usize, words: &mut [u64])
-    requires { ⌜ from ≤ length (now words) ⌝ }
     ensures { λ _. ⌜ now (words .exit) ≡ take from (now (words .entry)) ++ replicate (length (now (words .entry)) - from) 0 ⌝ }
 {
     let mut i = from;
@@ -206,7 +205,7 @@ fn stopped(slot: usize, written: usize, nodes: usize) -> Progress
 }
 
 // Takes one slot of a journal: the place counter, and what is known so far, come in as numbers and go out moved on.
-fn take_slot(
+pub fn take_slot(
     journal: &[u8],
     slot: usize,
     words: &mut [u64],
@@ -290,24 +289,42 @@ fn is_length(bytes: usize) -> bool
     bytes <= MOST_SLOTS * block::SLOT
 }
 
-// Recovers the nodes of a hall from its journal: the root and the addresses in order, then zeros to the end of the words. A journal with a fault
-// leaves all of them zeros.
-pub fn recover(journal: &[u8], words: &mut [u64]) -> Recovered
-    ensures { λ r. ⌜ (r ≡ recovering (now (journal .entry)) (now (words .entry)) .answer) × (now (words .exit) ≡ recovering (now (journal .entry)) (now (words .entry)) .words) ⌝ }
+// "Recovery first checks the length (12), then that at least 512 words are lent (10)": a refusal's number, 0 where neither is wrong.
+pub fn unfit(bytes: usize, words: usize) -> u8
+    ensures { λ r. ⌜ r ≡ unfit bytes words ⌝ }
 {
-    if !is_length(journal.len()) {
-        return refuse(WRONG_LENGTH);
+    if !is_length(bytes) {
+        return WRONG_LENGTH;
     }
-    if words.len() < MOST_NODES {
-        return refuse(NO_ROOM);
+    if words < MOST_NODES {
+        return NO_ROOM;
     }
-    let end = replay(journal, words);
+    0
+}
+
+// What recovery answers where no slot is left to take: zeros stand behind the nodes known. A fault has left all of the words zeros.
+pub fn finish(end: Progress, words: &mut [u64]) -> Recovered
+    ensures { λ r. ⌜ (r ≡ finished end (now (words .entry)) .answer) × (now (words .exit) ≡ finished end (now (words .entry)) .words) ⌝ }
+{
     if end.refusal != 0 {
         return refuse(end.refusal);
     }
     let nodes = end.nodes;
     clear(nodes, words);
     Recovered { refusal: 0, nodes }
+}
+
+// Recovers the nodes of a hall from its journal: the root and the addresses in order, then zeros to the end of the words. A journal with a fault
+// leaves all of them zeros.
+pub fn recover(journal: &[u8], words: &mut [u64]) -> Recovered
+    ensures { λ r. ⌜ (r ≡ recovering (now (journal .entry)) (now (words .entry)) .answer) × (now (words .exit) ≡ recovering (now (journal .entry)) (now (words .entry)) .words) ⌝ }
+{
+    let refusal = unfit(journal.len(), words.len());
+    if refusal != 0 {
+        return refuse(refusal);
+    }
+    let end = replay(journal, words);
+    finish(end, words)
 }
 
 fn refuse_block(number: u8) -> Placed

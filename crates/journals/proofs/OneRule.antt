@@ -23,7 +23,7 @@ use Rattle.journals.proofs.Writing.{write-refusals}
 
 -- ---- recovery
 
-right-once : (journal xs ys : List ℕ) → AreOctets journal → Right (slotsOf journal) xs → Right (slotsOf journal) ys → xs ≡ ys
+pub right-once : (journal xs ys : List ℕ) → AreOctets journal → Right (slotsOf journal) xs → Right (slotsOf journal) ys → xs ≡ ys
 right-once journal xs ys all p q =
     let s = slots-slotsOf journal all in
     let both = sym (replay-right (slotsOf journal) xs s p) ∙ replay-right (slotsOf journal) ys s q in

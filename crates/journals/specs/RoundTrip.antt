@@ -29,14 +29,14 @@ AllWritten write journal [] P = P journal
 AllWritten write journal (block ∷ blocks) P = (write journal block .answer .refusal ≡ 0) × AllWritten write (write journal block .journal) blocks P
 
 pub record RoundTrip (write : WriteRule) (recover : RecoverRule) : Type 0 where
-  -- "slots lost to torn blocks counted": a journal that recovers to the nodes of some requests, and the addresses that more of them give, cut
+  -- slots lost to torn blocks counted: a journal that recovers to the nodes of some requests, and the addresses that more of them give, cut
   -- into blocks in any way, where the slots that are not written suffice, and the nodes
   pub onward : (journal : List ℕ) (written : List (List ℕ)) (rs more : List Request) (blocks : List (List ℕ))
       → AreOctets journal → Written (slotsOf journal) written → RecoversTo recover journal (nodesOf rs)
       → nodesOf (rs ++ more) ≡ nodesOf rs ++ joined blocks → AreBlocks blocks
       → length written + length blocks ≤ length (slotsOf journal) → length (nodesOf (rs ++ more)) ≤ mostNodes
       → AllWritten write journal blocks (λ after. RecoversTo recover after (nodesOf (rs ++ more)))
-  -- "every list of addresses given since a bare root": into an erased journal
+  -- every list of addresses given since a bare root, into an erased journal
   pub whole : (slots : ℕ) (rs : List Request) (blocks : List (List ℕ)) → 1 ≤ slots → slots ≤ mostSlots
       → givenIn childOf rs ≡ joined blocks → AreBlocks blocks → length blocks ≤ slots → length (nodesOf rs) ≤ mostNodes
       → AllWritten write (replicate (slotBytes * slots) 0xFF) blocks (λ after. RecoversTo recover after (nodesOf rs))

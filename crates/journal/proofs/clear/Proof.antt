@@ -21,7 +21,7 @@ cleared-turn words xs from i le lt e =
 
 abbrev Inv-loop : tie.InvT-loop
 Inv-loop from words₀ i₀ words i =
-    (from ≤ i) × (i ≤ length words) × (length words ≡ length words₀) × (take i words ≡ take from words₀ ++ replicate (i - from) 0)
+    (from ≤ i) × (i - from ≤ length words - from) × (length words ≡ length words₀) × (take i words ≡ take from words₀ ++ replicate (i - from) 0)
 
 abbrev μ-loop : tie.MeasureT-loop
 μ-loop from words₀ i₀ words i = length words - i
@@ -62,9 +62,10 @@ same-length c = c .before .loop .inv .2
 returns : tie.Need-returns Inv-loop μ-loop
 returns c =
     let loop = c .before .loop in
-    let end : loop .i ≡ length (c .before .before .args .words .now) = omega arith in
-    sym (take-all (loop .i) (loop .words) (c .loop-test .left)) ∙ loop .inv .3
-    ∙ ap (λ (k : ℕ). take (c .before .before .args .from) (c .before .before .args .words .now) ++ replicate (k - c .before .before .args .from) 0) end
+    let from = c .before .before .args .from in
+    let words = c .before .before .args .words .now in
+    let end : loop .i - from ≡ length words - from = omega arith in
+    sym (take-all (loop .i) (loop .words) (c .loop-test .left)) ∙ loop .inv .3 ∙ ap (λ (k : ℕ). take from words ++ replicate k 0) end
 
 pub clear-spec : {M : Type 1} → statement M
 clear-spec =

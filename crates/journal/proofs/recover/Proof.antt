@@ -1,21 +1,16 @@
--- `journal::recover` meets its contract: each exit is one law of `recovering`, at the end of the run over the slots.
+-- `journal::recover` meets its contract: each exit is one law of `recovering`, the second at the end of the run over the slots.
 use Prim.Native.Nat.{ℕ}
 use mathlib.Core.Path.{_≡_, refl, sym, ap, _∙_}
 use mathlib.Core.List.{List}
-use native.Mathlib.Omega.{arith}
 use borrow.Author.Needs.{needs}
-use borrow.Author.Tests.{not-true, not-false}
 use lib.ListN.{length}
-use Rattle.journal.specs.Slots.{slotCount}
-use Rattle.journal.specs.Recovery.{refuseRecovery}
-use Rattle.journal.specs.Reader.{State, run, begin}
-use Rattle.journal.proofs.EndLaws.{ends-so}
-use Rattle.journal.proofs.RecoverLaws.{isLength-some, recovery-says, recovering-length, recovering-room, recovering-fault, recovering-known}
+use Rattle.journal.specs.Recovery.{RecoverEffect, refuseRecovery}
+use Rattle.journal.proofs.RecoverLaws.{isLength-some, unfit-none, recovery-says, recovering-unfit, recovering-run}
 use Rattle.journal.proofs.recover.Statement.{statement}
 use Rattle.journal.proofs.recover.Tie as tie
 
-is-length-requires : tie.Need-is-length-requires
-is-length-requires c κs = search needs
+unfit-requires : tie.Need-unfit-requires
+unfit-requires c κs = search needs
 
 refuse-requires : tie.Need-refuse-requires
 refuse-requires c κs = search needs
@@ -24,79 +19,30 @@ returns : tie.Need-returns
 unfolding refuseRecovery
 returns c =
     let at = c .before .before .before .before .before .args in
-    let wrong = sym (c .before .before .is-length .ensures) ∙ not-true _ (c .before .if1 .taken) in
-    let says = recovery-says _ (recovering-length (at .journal .now) (at .words .now) wrong) in
-    (c .refuse .ensures ∙ says .0, says .1)
-
-refuse-requires-2 : tie.Need-refuse-requires-2
-refuse-requires-2 c κs = search needs
-
-returns-2 : tie.Need-returns-2
-unfolding refuseRecovery
-returns-2 c =
-    let at = c .before .before .before .before .before .before .args in
-    let right = sym (c .before .before .before .is-length .ensures) ∙ not-false _ (c .before .before .if1 .left) in
-    let says = recovery-says _ (recovering-room (at .journal .now) (at .words .now) right (omega arith)) in
-    (c .refuse2 .ensures ∙ says .0, says .1)
+    let refusal = c .before .before .unfit .ensures in
+    let says = recovery-says _ (recovering-unfit (at .journal .now) (at .words .now) (λ z. c .before .if1 .taken (refusal ∙ z))) in
+    (c .refuse .ensures ∙ ap (λ (n : ℕ). record { refusal = n; nodes = 0 }) refusal ∙ says .0, says .1)
 
 replay-requires : tie.Need-replay-requires
 replay-requires c κs =
-    let at = c .before .before .before .before .before .before .args in
-    let right = sym (c .before .before .before .is-length .ensures) ∙ not-false _ (c .before .before .if1 .left) in
-    (isLength-some (length (at .journal .now)) right, omega arith)
+    let at = c .before .before .before .before .before .args in
+    let fit = unfit-none _ _ (sym (c .before .before .unfit .ensures) ∙ c .before .if1 .left) in
+    (isLength-some (length (at .journal .now)) (fit .0), fit .1)
 
-refuse-requires-3 : tie.Need-refuse-requires-3
-refuse-requires-3 c κs = search needs
+finish-requires : tie.Need-finish-requires
+finish-requires c κs = search needs
 
 same-length : tie.Need-same-length
 same-length c = search needs
 
-returns-3 : tie.Need-returns-3
-unfolding refuseRecovery
-returns-3 c =
+returns-2 : tie.Need-returns-2
+returns-2 c =
     let at = c .before .before .before .before .before .before .before .before .before .before .before .before .args in
-    let right = sym (c .before .before .before .before .before .before .before .before .before .is-length .ensures) ∙ not-false _ (c .before .before .before .before .before .before .before .before .if1 .left) in
-    let some = isLength-some (length (at .journal .now)) right in
-    let replayed = c .before .before .before .before .before .replay in
-    let end = ends-so (at .journal .now) (at .words .now) (omega arith) some (replayed .result) (replayed .last .1 .0) (replayed .ensures) in
-    let says = recovery-says _ (recovering-fault (at .journal .now) (at .words .now) right (omega arith) _ _ end (c .before .if3 .taken)) in
-    (c .refuse3 .ensures ∙ says .0, says .1)
-
-clear-requires : tie.Need-clear-requires
-clear-requires c κs =
-    let at = c .before .before .before .before .before .before .before .before .before .before .before .before .args in
-    let right = sym (c .before .before .before .before .before .before .before .before .before .is-length .ensures) ∙ not-false _ (c .before .before .before .before .before .before .before .before .if1 .left) in
-    let some = isLength-some (length (at .journal .now)) right in
-    let replayed = c .before .before .before .before .before .replay in
-    let end = ends-so (at .journal .now) (at .words .now) (omega arith) some (replayed .result) (replayed .last .1 .0) (replayed .ensures) in
-    omega (arith, end .few, end .same)
-
-same-length-2 : tie.Need-same-length-2
-same-length-2 c = search needs
-
-returns-4 : tie.Need-returns-4
-returns-4 c =
-    let at = c .before .before .before .before .before .before .before .before .before .before .before .before .before .before .before .args in
-    let right = sym (c .before .before .before .before .before .before .before .before .before .before .before .before .is-length .ensures) ∙ not-false _ (c .before .before .before .before .before .before .before .before .before .before .before .if1 .left) in
-    let some = isLength-some (length (at .journal .now)) right in
-    let replayed = c .before .before .before .before .before .before .before .before .replay in
-    let end = ends-so (at .journal .now) (at .words .now) (omega arith) some (replayed .result) (replayed .last .1 .0) (replayed .ensures) in
-    let says = recovery-says _ (recovering-known (at .journal .now) (at .words .now) right (omega arith) _ _ end (c .before .before .before .before .if3 .left)) in
-    (says .0, c .before .before .clear .ensures ∙ says .1)
+    let fit = sym (c .before .before .before .before .before .before .before .before .before .unfit .ensures) ∙ c .before .before .before .before .before .before .before .before .if1 .left in
+    let replayed = c .before .before .before .before .before .before .replay in
+    let e = recovering-run (at .journal .now) (at .words .now) fit (replayed .result) (replayed .last .1 .0) (replayed .ensures) in
+    let finished = c .before .before .finish in
+    (finished .ensures .0 ∙ ap (λ (x : RecoverEffect). x .answer) (sym e), finished .ensures .1 ∙ ap (λ (x : RecoverEffect). x .words) (sym e))
 
 pub recover-spec : {M : Type 1} → statement M
-recover-spec =
-    tie.close
-    (tie.spec
-    is-length-requires
-    refuse-requires
-    returns
-    refuse-requires-2
-    returns-2
-    replay-requires
-    refuse-requires-3
-    same-length
-    returns-3
-    clear-requires
-    same-length-2
-    returns-4)
+recover-spec = tie.close (tie.spec unfit-requires refuse-requires returns replay-requires finish-requires same-length returns-2)
