@@ -1,14 +1,20 @@
 -- The front page's lines on the code of request Four, each quoted from the function's own contract. Assumes nothing.
 use mathlib.Core.Path.{refl}
+use Rattle.node.specs.Node.{withCounts}
 use Rattle.node.proofs.Promises.{with-counts-promise, with-counts-asks-nothing}
 use Rattle.crc.proofs.Promises.{crc-promise, crc-asks-nothing}
 use Rattle.block.proofs.Promises.{all-are-promise, all-are-asks-nothing, is-block-promise, is-block-asks-nothing, put-promise, put-asks-nothing}
+use Rattle.journal.proofs.Promises.{refuse-promise, refuse-asks-nothing, unfit-promise, unfit-asks-nothing, take-slot-promise}
+use Rattle.journal.proofs.Promises.{take-slot-asks-nothing, finish-promise, finish-asks-nothing}
+use Rattle.reader.proofs.Promises.{start-promise, start-asks-nothing, next-promise, next-asks-nothing, place-promise, place-asks-nothing}
+use Rattle.reader.proofs.Promises.{recover-asks-nothing as reader-recover-asks-nothing}
+use Rattle.reader.proofs.Theorem.{same-answers}
 use Rattle.journal.proofs.Promises.{recover-asks-nothing, write-asks-nothing, record-in-promise, record-in-asks-nothing}
 use Rattle.pasa.specs.Journals.{pasaBlock, pasaRecovered, pasaRecord, bit}
 use Rattle.pasa.proofs.JournalPromises.{node-promise, node-asks-nothing, journal-write-promise, journal-write-asks-nothing}
 use Rattle.pasa.proofs.JournalPromises.{journal-recover-promise, journal-recover-asks-nothing, journal-record-promise, journal-record-asks-nothing}
 use Rattle.pasa.proofs.JournalPromises.{crc-promise as pasa-crc-promise, crc-asks-nothing as pasa-crc-asks-nothing}
-use Rattle.claims.specs.JournalCode.{JournalAsksNothing, JournalAnswersAsDefined, JournalFields}
+use Rattle.claims.specs.JournalCode.{JournalAsksNothing, JournalAnswersAsDefined, TheReader, JournalFields}
 
 pub journal-asks-nothing : JournalAsksNothing
 journal-asks-nothing = record {
@@ -20,6 +26,11 @@ journal-asks-nothing = record {
   journalRecover = recover-asks-nothing;
   journalWrite = write-asks-nothing;
   journalRecord = record-in-asks-nothing;
+  journalRefuse = refuse-asks-nothing;
+  journalUnfit = unfit-asks-nothing;
+  journalTakeSlot = take-slot-asks-nothing;
+  journalFinish = finish-asks-nothing;
+  readerRecover = reader-recover-asks-nothing;
   pasaNodeTo = node-asks-nothing;
   pasaJournalWrite = journal-write-asks-nothing;
   pasaJournalRecover = journal-recover-asks-nothing;
@@ -37,6 +48,11 @@ journal-answers-as-defined = record {
   journalRecover = λ κs journal words words′ r h. h;
   journalWrite = λ κs journal xs journal′ r h. h;
   journalRecord = record-in-promise;
+  journalRefuse = refuse-promise;
+  journalUnfit = unfit-promise;
+  journalTakeSlot = take-slot-promise;
+  journalFinish = finish-promise;
+  readerRecover = λ κs journal words words′ r h. h;
   pasaNodeTo = node-promise;
   pasaJournalWrite = journal-write-promise;
   pasaJournalRecover = journal-recover-promise;
@@ -44,11 +60,23 @@ journal-answers-as-defined = record {
   pasaCrc = pasa-crc-promise;
 }
 
+pub the-reader : TheReader
+the-reader = record {
+  sameAnswers = same-answers;
+  starts = λ 𝓤 H A mem run κs journal r end. (start-asks-nothing 𝓤 H A mem run κs journal, start-promise 𝓤 H A mem run κs journal r end);
+  takes = λ 𝓤 H A mem run κs reader words written nodes r end. (
+    next-asks-nothing 𝓤 H A mem run κs reader words written nodes,
+    next-promise 𝓤 H A mem run κs reader words written nodes r end,
+  );
+  itsPlace = λ 𝓤 H A mem run κs reader n end. (place-asks-nothing 𝓤 H A mem run κs reader, place-promise 𝓤 H A mem run κs reader n end);
+}
+
 pub journal-fields : JournalFields
-unfolding pasaBlock pasaRecovered pasaRecord bit
+unfolding withCounts pasaBlock pasaRecovered pasaRecord bit
 journal-fields = record {
   block = λ p. refl;
   recovered = λ r. refl;
   itsRecord = λ r. refl;
+  counts = λ routers hosts n. refl;
   yesAndNo = (refl, refl);
 }

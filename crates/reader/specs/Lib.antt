@@ -1,0 +1,3 @@
+-- What the reader of a journal promises, in definitions and statements alone.
+pub mod Reader
+pub mod SameAnswers
