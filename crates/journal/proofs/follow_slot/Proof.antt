@@ -62,21 +62,34 @@ take-requires c κs =
     let loop = c .before .before .before .before .loop in
     (loop .inv .2 .within, omega (arith, loop .inv .2 .same))
 
+-- ---- an address taken
+
+abbrev slot : tie.After-take Inv-loop μ-loop → List ℕ
+slot c = c .before .before .before .before .before .before .before .before .before .args .slot .now
+
+abbrev index : tie.After-take Inv-loop μ-loop → ℕ
+index c = c .before .before .before .before .before .loop .i
+
+within : (c : tie.After-take Inv-loop μ-loop) → index c < countIn (slot c)
+within c = omega arith
+
+-- what is read there is the address
+read : (c : tie.After-take Inv-loop μ-loop) → c .before .before .get .result ≡ getD (addressesIn (slot c)) (index c) 0
+read c =
+    let begin = addressesAt + addressBytes * index c in
+    let all = all-octets (slot c) (λ i. omega (arith, c .before .before .before .before .before .before .before .before .shared-slice-known .given i)) in
+    address-read (slot c) (index c) _ (begin + addressBytes - begin) all (within c) (omega arith) (c .before .before .get .ensures)
+
 same-length : tie.Need-same-length Inv-loop μ-loop
 same-length c = c .before .before .before .before .take .ensures .same ∙ c .before .before .before .before .before .before .before .before .before .loop .inv .2 .same
 
 returns : tie.Need-returns Inv-loop μ-loop
 returns c =
-    let start = c .before .before .before .before .before .before .before .before .before .before .before .before .before .args in
-    let loop = c .before .before .before .before .before .before .before .before .before .loop in
-    let slot = start .slot .now in
-    let within : loop .i < countIn slot = omega arith in
-    let all = all-octets slot (λ i. omega (arith, c .before .before .before .before .before .before .before .before .before .before .before .before .shared-slice-known .given i)) in
-    let begin = addressesAt + addressBytes * loop .i in
-    let read = address-read slot (loop .i) _ (begin + addressBytes - begin) all within (omega arith) (c .before .before .before .before .before .before .get .ensures) in
-    let taken = c .before .before .before .before .take in
-    follows-stop (addressesIn slot) (start .nodes) (start .words .now) (loop .words) _ (loop .at) (taken .result) (loop .i)
-    (omega (arith, length-addressesIn slot, within)) (loop .inv .1) (loop .inv .2) (rw read at (taken .ensures)) (c .if1 .taken)
+    let taken = c .before .before .before .before in
+    let start = taken .before .before .before .before .before .before .before .before .before .args in
+    let at = taken .before .before .before .before .before .loop in
+    follows-stop (addressesIn (slot taken)) (start .nodes) (start .words .now) (at .words) _ (at .at) (taken .take .result) (index taken)
+    (omega (arith, length-addressesIn (slot taken), within taken)) (at .inv .1) (at .inv .2) (rw (read taken) at (taken .take .ensures)) (c .if1 .taken)
 
 add-i : tie.Need-add-i Inv-loop μ-loop
 add-i c = search needs
@@ -86,17 +99,12 @@ loop-less c = omega arith
 
 loop-again : tie.Need-loop-again Inv-loop μ-loop
 loop-again c =
-    let start = c .before .before .before .before .before .before .before .before .before .before .before .before .before .args in
-    let loop = c .before .before .before .before .before .before .before .before .before .loop in
-    let slot = start .slot .now in
-    let within : loop .i < countIn slot = omega arith in
-    let all = all-octets slot (λ i. omega (arith, c .before .before .before .before .before .before .before .before .before .before .before .before .shared-slice-known .given i)) in
-    let begin = addressesAt + addressBytes * loop .i in
-    let read = address-read slot (loop .i) _ (begin + addressBytes - begin) all within (omega arith) (c .before .before .before .before .before .before .get .ensures) in
-    let taken = c .before .before .before .before .take in
+    let taken = c .before .before .before .before in
+    let start = taken .before .before .before .before .before .before .before .before .before .args in
+    let at = taken .before .before .before .before .before .loop in
     let more =
-    follows-turn (addressesIn slot) (start .nodes) (start .words .now) (loop .words) _ (loop .at) (taken .result) (loop .i)
-    (omega (arith, length-addressesIn slot, within)) (loop .inv .1) (loop .inv .2) (rw read at (taken .ensures)) in
+    follows-turn (addressesIn (slot taken)) (start .nodes) (start .words .now) (at .words) _ (at .at) (taken .take .result) (index taken)
+    (omega (arith, length-addressesIn (slot taken), within taken)) (at .inv .1) (at .inv .2) (rw (read taken) at (taken .take .ensures)) in
     (omega arith, c .if1 .left, more)
 
 same-length-2 : tie.Need-same-length-2 Inv-loop μ-loop
