@@ -4,7 +4,7 @@ use mathlib.Core.Path.{_≡_, refl, sym, ap, ap₂, _∙_}
 use mathlib.Core.Bool.{Bool, true, false, not, _&&_}
 use mathlib.Core.List.{List, _++_}
 use native.Mathlib.Omega.{arith}
-use borrow.Author.Tests.{eq-eqb, ne-eqb, eqb-true, eqb-false, lt-ltb, le-ltb, ltb-true, ltb-false, leb-true}
+use borrow.Author.Tests.{eq-eqb, ne-eqb, eqb-true, eqb-false, le-ltb, ltb-false, leb-true}
 use lib.Dec.{eqb, leb, ltb}
 use lib.ListN.{length, take, replicate}
 use lib.Seq.{length-take-le}
@@ -55,7 +55,8 @@ unfit-none bytes words e = go (isLength bytes) (ltb words mostNodes) refl refl e
     go false few r f z = absurd (omega (arith, z))
 
 module _ (journal words : List ℕ) where
-  pub recovering-unfit : (unfit (length journal) (length words) ≡ 0 → ⊥) → recovering journal words ≡ refuseRecovery (unfit (length journal) (length words)) words
+  pub recovering-unfit : (unfit (length journal) (length words) ≡ 0 → ⊥)
+      → recovering journal words ≡ refuseRecovery (unfit (length journal) (length words)) words
   unfolding recovering unfit
   recovering-unfit ne = go (isLength (length journal)) (ltb (length words) mostNodes) ne
     where
@@ -108,4 +109,5 @@ module _ (journal words : List ℕ) where
       → recovering journal words ≡ finished at ws
   recovering-run fit at ws e =
       let (right, room) = unfit-none (length journal) (length words) fit in
-      recovering-finished right room _ (record { progress = at; words = ws }) (ends-so journal words room (isLength-some (length journal) right) at ws e)
+      let some = isLength-some (length journal) right in
+      recovering-finished right room _ (record { progress = at; words = ws }) (ends-so journal words room some at ws e)

@@ -13,8 +13,8 @@ use base.Logic.{ent, sep, ex}
 use base.Fml.{Lft, GName, Share, Fml, fsep, flft, fdead, fobs, fauth, flent, fobor}
 use prog.Wp.{Heap}
 use ghost.Atoms.{Atoms, sem}
-use types.Kit.{Given, ‵, _⊛_, some, later, _$_, _∵_, !, qed, move, use1, use3, drop, rewrite, split, pick, fsplit, fjoin, frame, await, updating, show, done}
-use types.Kit.{now as at-once}
+use types.Kit.{Given, ‵, _⊛_, some, later, _$_, _∵_, !, qed, move, use1, use3, drop, rewrite, split, pick, fsplit, fjoin, frame, await}
+use types.Kit.{updating, show, done, now as at-once}
 use types.SemTy.{cells, Arr}
 use denote.Builtin.{u64}
 use denote.Shadow.{pureL, pureI}
@@ -47,7 +47,9 @@ module _ (b o n : ℕ) where
       lend =
           qed W (‵ (Words ℓ κ γ l) ∷ ‵ (flft κ q) ∷ []) ∵ updating ! $ fsplit ! $ pureL ! (at-slice u64 (lent γ l) (sliceVal (b, o) n ∷ [])) (λ p.
           fsplit ! $ opens-slice ! tt u64 l b o $ use1 W (‵ (cells (mem u64) l b o)) (whole-in 𝓤 H A W u64 l b o) $
-          use1 W (later (some (λ (δ : GName). ‵ (MutSlice ℓ ν u64 .own (lent δ l) (sliceVal (b, o) (length l) ∷ [])) ⊛ ‵ (flent ν (Held u64 (length l) b o δ)))))
+          use1 W
+          (later (some (λ (δ : GName).
+          ‵ (MutSlice ℓ ν u64 .own (lent δ l) (sliceVal (b, o) (length l) ∷ [])) ⊛ ‵ (flent ν (Held u64 (length l) b o δ)))))
           (lends-slice 𝓤 H A W u64 ℓ ν l b o (p .1)) $ await ! tt $ pick ! (λ δ. split ! $
           -- [the words at ν; the claim to them; the open borrow; the two halves]
           rewrite ! 0 (λ (vs : List Val). ‵ (MutSlice ℓ ν u64 .own (lent δ l) vs)) (sym (p .0)) refl $ at-once ! $
@@ -60,8 +62,9 @@ module _ (b o n : ℕ) where
       take-back δ zs room long same =
           qed W (‵ (fdead ν) ∷ ‵ (Meanwhile δ) ∷ ‵ (finally u64 δ zs) ∷ []) ∵ updating ! $ move ! (1 ∷ []) $ fsplit ! $
           -- [the borrow and its name; the claim; ν has ended; the last words]
-          move ! (2 ∷ 1 ∷ 3 ∷ []) $ use3 W (later (‵ (Arr (mem u64) (length l) .lies zs b o))) (slice-back 𝓤 H A W u64 ν δ zs (length l) b o) $ await ! tt $
-          fsplit ! $ drop ! $ use1 W (‵ (row u64 fullShare zs b o)) (whole-out 𝓤 H A W u64 zs b o) $
-          move ! (1 ∷ []) $ fsplit ! $ move ! (1 ∷ []) $ fsplit ! $ move ! (3 ∷ 2 ∷ 0 ∷ 1 ∷ []) $ closes-slice ! tt u64 l zs same b o $ at-once ! $ fjoin ! $
+          move ! (2 ∷ 1 ∷ 3 ∷ []) $ use3 W (later (‵ (Arr (mem u64) (length l) .lies zs b o))) (slice-back 𝓤 H A W u64 ν δ zs (length l) b o) $
+          await ! tt $ fsplit ! $ drop ! $ use1 W (‵ (row u64 fullShare zs b o)) (whole-out 𝓤 H A W u64 zs b o) $
+          move ! (1 ∷ []) $ fsplit ! $ move ! (1 ∷ []) $ fsplit ! $ move ! (3 ∷ 2 ∷ 0 ∷ 1 ∷ []) $ closes-slice ! tt u64 l zs same b o $ at-once ! $
+          fjoin ! $
           pureI ! (at-slice u64 (lent γ zs) (sliceVal (b, o) n ∷ [])) (tt, (tt, tt))
           (ap (λ (m : ℕ). sliceVal (b, o) m ∷ []) (sym (same ∙ long)), subst (Room u64) (sym (same ∙ long)) room) $ fjoin ! $ done !

@@ -1,5 +1,5 @@
 -- What the functions of this crate promise, by their contracts as the code states them, is `readerAt`, `reading` and `recovering`: the definitions of
--- which the theorem is proved. None of them asks anything of its caller. A function over the reader has no `Reads`, so its clauses are quoted themselves.
+-- which the theorem is proved. None of them asks anything of its caller. A function over the reader has no `Reads`: its clauses are quoted.
 use mathlib.Core.Path.{_≡_, refl}
 use mathlib.Core.List.{List}
 use Prim.Native.Nat.{ℕ}

@@ -1,19 +1,18 @@
 -- From the first slot on the reader gives the same answers as recovery: asked so often, it has come to the state that a run of as many slots comes
 -- to. Assumes nothing.
-use Prim.Native.Nat.{ℕ, zero, suc, _+_, _<_, _≤_}
+use Prim.Native.Nat.{ℕ, zero, suc, _+_, _≤_}
 use mathlib.Core.Path.{_≡_, refl, sym, ap, _∙_}
 use mathlib.Core.Bool.{Bool, true, false}
 use mathlib.Core.List.{List}
 use native.Mathlib.Omega.{arith}
-use borrow.Author.Tests.{eqb-true, eqb-false}
+use borrow.Author.Tests.{eq-eqb, ne-eqb, eqb-true, eqb-false}
 use lib.Dec.{eqb}
 use lib.ListN.{length, set, length-set}
 use denote.Ref.{RefT, now}
-use Rattle.address.specs.Choice.{if_then_else_}
 use Rattle.address.specs.Bits.{root}
 use Rattle.journal.specs.Limits.{mostNodes}
 use Rattle.journal.specs.Slots.{slotCount}
-use Rattle.journal.specs.Recovery.{RecoverEffect, unfit, refuseRecovery, recovering}
+use Rattle.journal.specs.Recovery.{unfit, refuseRecovery, recovering}
 use Rattle.journal.specs.Reader.{State, run, from, begin, finished}
 use Rattle.journal.proofs.RunLaws.{OnTheWay, stepped, run-done, run-step, stepped-way, stepped-slot, from-way}
 use Rattle.journal.proofs.RecoverLaws.{isLength-some, unfit-none, recovering-unfit, recovering-run}
@@ -22,13 +21,13 @@ use Rattle.reader.specs.SameAnswers.{Answer, reading, cameTo, asked, ask
 asked-run : (journal : RefT (List ℕ)) (k : ℕ) (s : State) → asked reading k (cameTo journal s) ≡ cameTo journal (run k (now journal) s)
 unfolding asked run
 asked-run journal zero s = refl
-asked-run journal (suc k) s = go (s .progress .done) (asked-run journal k (stepped (now journal) s))
+asked-run journal (suc k) s = go (s .progress .done) refl (asked-run journal k (stepped (now journal) s))
   where
-    go : (done : Bool) → asked reading k (cameTo journal (stepped (now journal) s)) ≡ cameTo journal (run k (now journal) (stepped (now journal) s))
-        → (if done then cameTo journal s else asked reading k (cameTo journal (stepped (now journal) s)))
-        ≡ cameTo journal (if done then s else run k (now journal) (stepped (now journal) s))
-    go true e = refl
-    go false e = e
+    go : (done : Bool) → s .progress .done ≡ done
+        → asked reading k (cameTo journal (stepped (now journal) s)) ≡ cameTo journal (run k (now journal) (stepped (now journal) s))
+        → asked reading (suc k) (cameTo journal s) ≡ cameTo journal (run (suc k) (now journal) s)
+    go true e rest = rw e refl
+    go false e rest = rw e rest
 
 askedAll-run : (journal : RefT (List ℕ)) (words : List ℕ)
     → askedAll reading journal words ≡ cameTo journal (run (slotCount (now journal)) (now journal) (begin words))
@@ -69,17 +68,25 @@ module _ (journal : RefT (List ℕ)) (words : List ℕ) where
   abbrev end : Answer
   end = askedAll reading journal words
 
-  by-reader : byReader reading journal words ≡ recovering (now journal) words
+  by-reader-fit : refusal ≡ 0 → byReader reading journal words ≡ finished (end .taken .progress) (end .words)
   unfolding byReader
+  by-reader-fit z = rw (eq-eqb refusal 0 z) refl
+
+  by-reader-unfit : (refusal ≡ 0 → ⊥) → byReader reading journal words ≡ refuseRecovery refusal words
+  unfolding byReader
+  by-reader-unfit ne = rw (ne-eqb refusal 0 ne) refl
+
+  by-reader : byReader reading journal words ≡ recovering (now journal) words
   by-reader = go (eqb refusal 0) refl
     where
-      go : (fit : Bool) → eqb refusal 0 ≡ fit
-          → (if fit then finished (end .taken .progress) (end .words) else refuseRecovery refusal words) ≡ recovering (now journal) words
+      go : (fit : Bool) → eqb refusal 0 ≡ fit → byReader reading journal words ≡ recovering (now journal) words
       go true e =
+          let z = eqb-true refusal 0 e in
           let ran = askedAll-run journal words in
-          sym (recovering-run (now journal) words (eqb-true refusal 0 e) (end .taken .progress) (end .words)
+          by-reader-fit z
+          ∙ sym (recovering-run (now journal) words z (end .taken .progress) (end .words)
           (ap (λ (a : Answer). a .taken .progress) ran, ap (λ (a : Answer). a .words) ran))
-      go false e = sym (recovering-unfit (now journal) words (eqb-false refusal 0 e))
+      go false e = let ne = eqb-false refusal 0 e in by-reader-unfit ne ∙ sym (recovering-unfit (now journal) words ne)
 
 pub same-answers : SameAnswers reading
 same-answers = record {

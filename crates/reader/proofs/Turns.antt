@@ -37,7 +37,8 @@ module _ (journal words : List ℕ) where
     falls = turning-falls journal words room (t .state) (t .turning) going
 
   pub ended : (t : Turn) → t .state .progress .done ≡ true
-      → (t .state .progress ≡ run (slotCount journal) journal (from words) .progress) × (t .state .words ≡ run (slotCount journal) journal (from words) .words)
+      → (t .state .progress ≡ run (slotCount journal) journal (from words) .progress)
+      × (t .state .words ≡ run (slotCount journal) journal (from words) .words)
   ended t e =
       let whole = turning-end journal words (t .state) (t .turning) e in
       (ap (λ (s : State). s .progress) whole, ap (λ (s : State). s .words) whole)

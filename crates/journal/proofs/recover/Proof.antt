@@ -1,7 +1,6 @@
 -- `journal::recover` meets its contract: each exit is one law of `recovering`, the second at the end of the run over the slots.
 use Prim.Native.Nat.{ℕ}
-use mathlib.Core.Path.{_≡_, refl, sym, ap, _∙_}
-use mathlib.Core.List.{List}
+use mathlib.Core.Path.{sym, ap, _∙_}
 use borrow.Author.Needs.{needs}
 use lib.ListN.{length}
 use Rattle.journal.specs.Recovery.{RecoverEffect, refuseRecovery}
@@ -38,11 +37,13 @@ same-length c = search needs
 returns-2 : tie.Need-returns-2
 returns-2 c =
     let at = c .before .before .before .before .before .before .before .before .before .before .before .before .args in
-    let fit = sym (c .before .before .before .before .before .before .before .before .before .unfit .ensures) ∙ c .before .before .before .before .before .before .before .before .if1 .left in
+    let tested = c .before .before .before .before .before .before .before .before in
     let replayed = c .before .before .before .before .before .before .replay in
-    let e = recovering-run (at .journal .now) (at .words .now) fit (replayed .result) (replayed .last .1 .0) (replayed .ensures) in
-    let finished = c .before .before .finish in
-    (finished .ensures .0 ∙ ap (λ (x : RecoverEffect). x .answer) (sym e), finished .ensures .1 ∙ ap (λ (x : RecoverEffect). x .words) (sym e))
+    let finished = c .before .before .finish .ensures in
+    let e =
+    recovering-run (at .journal .now) (at .words .now) (sym (tested .before .unfit .ensures) ∙ tested .if1 .left) (replayed .result)
+    (replayed .last .1 .0) (replayed .ensures) in
+    (finished .0 ∙ ap (λ (x : RecoverEffect). x .answer) (sym e), finished .1 ∙ ap (λ (x : RecoverEffect). x .words) (sym e))
 
 pub recover-spec : {M : Type 1} → statement M
 recover-spec = tie.close (tie.spec unfit-requires refuse-requires returns replay-requires finish-requires same-length returns-2)

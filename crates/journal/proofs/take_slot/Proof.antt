@@ -101,7 +101,9 @@ returns-5 c =
     (entered .ensures) (c .before .before .before .before .if5 .taken) in
     let says = step-says _ e in
     let long : length (entered .last .1 .1 .1 .0) - 0 ≡ length (at .words .now) = omega (arith, entered .ensures .same) in
-    (says .0, c .before .before .clear .ensures ∙ ap (λ (k : ℕ). replicate k 0) long ∙ says .1)
+    let cleared : c .before .before .clear .last .1 .0 ≡ replicate (length (at .words .now)) 0 =
+    c .before .before .clear .ensures ∙ ap (λ (k : ℕ). replicate k 0) long in
+    (says .0, cleared ∙ says .1)
 
 same-length-2 : tie.Need-same-length-2
 same-length-2 c = search needs

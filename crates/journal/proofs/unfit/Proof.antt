@@ -17,12 +17,14 @@ returns c = rw (sym (c .before .is-length .ensures) ∙ not-true _ (c .if1 .take
 returns-2 : tie.Need-returns-2
 unfolding unfit
 returns-2 c =
-    rw (sym (c .before .before .is-length .ensures) ∙ not-false _ (c .before .if1 .left), lt-ltb (c .before .before .before .args .words) mostNodes (c .if2 .taken)) refl
+    let right = sym (c .before .before .is-length .ensures) ∙ not-false _ (c .before .if1 .left) in
+    rw (right, lt-ltb (c .before .before .before .args .words) mostNodes (c .if2 .taken)) refl
 
 returns-3 : tie.Need-returns-3
 unfolding unfit
 returns-3 c =
-    rw (sym (c .before .before .is-length .ensures) ∙ not-false _ (c .before .if1 .left), le-ltb (c .before .before .before .args .words) mostNodes (c .if2 .left)) refl
+    let right = sym (c .before .before .is-length .ensures) ∙ not-false _ (c .before .if1 .left) in
+    rw (right, le-ltb (c .before .before .before .args .words) mostNodes (c .if2 .left)) refl
 
 pub unfit-spec : {M : Type 1} → statement M
 unfit-spec = tie.close (tie.spec is-length-requires returns returns-2 returns-3)

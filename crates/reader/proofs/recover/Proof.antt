@@ -1,9 +1,10 @@
 -- `reader::recover` meets its contract: each exit is one law of `recovering`, the second at the end of the run over the slots.
 use Prim.Native.Nat.{ℕ, _≤_}
-use mathlib.Core.Path.{_≡_, sym, ap, _∙_}
+use mathlib.Core.Path.{sym, ap, _∙_, subst}
 use native.Mathlib.Omega.{arith}
 use borrow.Author.Needs.{needs}
 use lib.ListN.{length, length-set}
+use Rattle.journal.specs.Limits.{mostNodes}
 use Rattle.journal.specs.Recovery.{RecoverEffect, refuseRecovery}
 use Rattle.journal.specs.Reader.{begin}
 use Rattle.journal.proofs.RecoverLaws.{isLength-some, unfit-none, recovery-says, recovering-unfit, recovering-run}
@@ -31,7 +32,7 @@ replay-requires : tie.Need-replay-requires
 replay-requires c κs =
     let at = c .before .before .before .before .before .args in
     let fit = unfit-none _ _ (sym (c .before .before .unfit .ensures) ∙ c .before .if1 .left) in
-    (isLength-some (length (at .journal .now)) (fit .0), omega (arith, fit .1, length-set (at .words .now) 0 1))
+    (isLength-some (length (at .journal .now)) (fit .0), subst (λ (n : ℕ). mostNodes ≤ n) (sym (length-set (at .words .now) _ _)) (fit .1))
 
 finish-requires : tie.Need-finish-requires
 finish-requires c κs = search needs
@@ -39,7 +40,7 @@ finish-requires c κs = search needs
 same-length : tie.Need-same-length
 same-length c =
     let at = c .before .before .before .before .before .before .before .before .before .before .before .before .args in
-    omega (arith, length-set (at .words .now) 0 1)
+    c .before .words2 .given ∙ c .before .before .before .before .before .words .given ∙ length-set (at .words .now) _ _
 
 returns-2 : tie.Need-returns-2
 unfolding begin

@@ -1,6 +1,6 @@
 -- `reader::replay` meets its contract: a walk of its MIR, by hand, with a loop (While.antt). The reader is made by `start`; each turn hands it to
--- `next`, with the words lent again for the call (Again.antt), and has the next reader and the words back. The loop's variant is a `Turn` (Turns.antt):
--- the numbers and the words, with the facts that a turn keeps. Assumes nothing.
+-- `next`, with the words lent again for the call (Again.antt), and has the next reader and the words back. The loop's variant is a `Turn`
+-- (Turns.antt): the numbers and the words, with the facts that a turn keeps. Assumes nothing.
 use mathlib.Core.Path.{_≡_, refl, ap}
 use mathlib.Core.Bool.{Bool, true, false, not}
 use Prim.Native.Nat.{ℕ, _<_, _≤_, _^_}
@@ -218,7 +218,8 @@ module _ {M : Type 1} (𝓤 : URA M) (H : Heap 𝓤) (A : Atoms 𝓤) (W : Given
             -- [the numbers; the words; what the journal owns]
             nothing ! $ move ! (2 ∷ 0 ∷ []) $ fjoin ! $ move ! (2 ∷ 0 ∷ []) $ fjoin ! $ frame ! $ done !
 
-      module _ (𝓣 : Tables 𝓤 H) (known-start : Triple 𝓤 (𝓣 .C #reader·Reader·start) Start) (known-next : Triple 𝓤 (𝓣 .C #reader·Reader·next) Next) where
+      module _ (𝓣 : Tables 𝓤 H) (known-start : Triple 𝓤 (𝓣 .C #reader·Reader·start) Start)
+          (known-next : Triple 𝓤 (𝓣 .C #reader·Reader·next) Next) where
         -- what is had before each turn
         abbrev Inv : (l₀ l₁ l₂ l₃ l₄ l₅ l₆ l₇ l₈ l₉ : ℕ) → Turn j ys → List (Item 𝓤)
         Inv l₀ l₁ l₂ l₃ l₄ l₅ l₆ l₇ l₈ l₉ t =
@@ -244,7 +245,8 @@ module _ {M : Type 1} (𝓤 : URA M) (H : Heap 𝓤) (A : Atoms 𝓤) (W : Given
             calls-at ! (fmOf 𝓤 H (W .laws) 𝓣) Start known-start to-start (and-then ! (load ! (from ! (stop !)) (look ! 18 refl)) (no-more !)) (λ u.
             use1 W
             (later (some (λ (r : Reader).
-            ((‵ (flft κ q) ⊛ ‵ ftrue) ⊛ ‵ (T.the-row α .own r (u ∷ []))) ⊛ raw (ensured 𝓤 H A start.ended (start.clauses 𝓤 H A mem run) (κ, tt) (x, tt) tt r))))
+            ((‵ (flft κ q) ⊛ ‵ ftrue) ⊛ ‵ (T.the-row α .own r (u ∷ [])))
+            ⊛ raw (ensured 𝓤 H A start.ended (start.clauses 𝓤 H A mem run) (κ, tt) (x, tt) tt r))))
             (id⊢ 𝓤 _) $ await ! tt $ pick ! (λ r.
             split ! $ move ! (1 ∷ []) $ use1 W (raw (fact 𝓤 (r ≡ readerAt x 0))) (start-said r) $ heard ! (r ≡ readerAt x 0) (λ e.
             split ! $ rewrite ! 1 (λ (h : Reader). ‵ (T.the-row α .own h (u ∷ []))) e refl $ move ! (2 ∷ []) $ split ! $ move ! (1 ∷ []) $ split ! $
@@ -253,25 +255,29 @@ module _ {M : Type 1} (𝓤 : URA M) (H : Heap 𝓤) (A : Atoms 𝓤) (W : Given
             peeks ! (T.the-row α) (Is (T.the-row α)) (shows 𝓤 H A (T.the-row α)) (readerAt x 0) (u ∷ []) (λ is.
             -- [what the reader owns; the words; κ; κ′; what the journal owns; _9 at 5; ..; _4 at 15; _3 at 17]
             land ! (from ! (stop !)) (init ! 17 refl (LL.lawful (T.the-type αᵉ) (T′.the-laws αᵉ) 𝓤 H A W .typed (readerAt x 0) _ is .0)) $
-            rewrite ! 17 (λ (m : Val). ‵ (fat fullShare (T′.mir erased) l₃ 0 m)) (ap only (LL.tells (T.the-type α) (T′.the-laws α) (readerAt x 0) _ is)) refl $
-            rewrite ! 0 (λ (ms : List Val). ‵ (T.the-row α .own (readerAt x 0) ms)) (LL.tells (T.the-type α) (T′.the-laws α) (readerAt x 0) _ is) refl $
+            let tells = LL.tells (T.the-type α) (T′.the-laws α) (readerAt x 0) _ is in
+            rewrite ! 17 (λ (m : Val). ‵ (fat fullShare (T′.mir erased) l₃ 0 m)) (ap only tells) refl $
+            rewrite ! 0 (λ (ms : List Val). ‵ (T.the-row α .own (readerAt x 0) ms)) tells refl $
             -- the numbers before the first slot
             assigns !
-            (agg ! (and-then ! (lit ! tt) (and-then ! (lit ! tt) (and-then ! (lit ! tt) (and-then ! (lit ! tt) (and-then ! (false-lit !) (no-more !)))))))
-            (from ! (stop !))
-            (init ! 15 refl (tt, (record { fits = lit< tt }, (record { fits = lit< tt }, (record { fits = lit< tt }, (record { fits = lit< tt }, (tt, tt))))))) $
+            (agg ! (and-then ! (lit ! tt) (and-then ! (lit ! tt) (and-then ! (lit ! tt) (and-then ! (lit ! tt) (and-then ! (false-lit !)
+            (no-more !))))))) (from ! (stop !))
+            (init ! 15 refl
+            (tt, (record { fits = lit< tt }, (record { fits = lit< tt }, (record { fits = lit< tt }, (record { fits = lit< tt }, (tt, tt))))))) $
             owned ! S.the-row (Is S.the-row) (LL.makes S.the-type S′.the-plain 𝓤 H A) none-taken (S′.lowered none-taken ∷ [])
             (LL.owes S.the-type S′.the-laws none-taken ((refl, lit< tt), ((refl, lit< tt), ((refl, lit< tt), ((refl, lit< tt), (refl, tt)))))) $
             move ! (1 ∷ 0 ∷ []) $ while ! 𝓣 (Under j ys) (well j ys) (Inv l₀ l₁ l₂ l₃ l₄ l₅ l₆ l₇ l₈ l₉) (λ t.
             -- a turn. [the reader; the numbers; the words; κ; κ′; what the journal owns; _9 at 6; _8 at 8; ..; _1 at 22; room for _0 at 24]
-            assigns ! (un ! (load ! (from ! (fld ! refl (stop !))) (look-in ! 16 (sub ! 4 refl (whole !)))) tt) (from ! (stop !)) (init ! 12 refl (tt, tt)) $
+            assigns ! (un ! (load ! (from ! (fld ! refl (stop !))) (look-in ! 16 (sub ! 4 refl (whole !)))) tt) (from ! (stop !))
+            (init ! 12 refl (tt, tt)) $
             peeks ! (T.the-row α) (Is (T.the-row α)) (shows 𝓤 H A (T.the-row α)) (readerAt x (at t .slot)) (mach (at t .slot) ∷ []) (λ is.
             move ! (1 ∷ []) $ peeks ! S.the-row (Is S.the-row) (shows 𝓤 H A S.the-row) (at t) (S′.lowered (at t) ∷ []) (λ iS. move ! (1 ∷ 0 ∷ []) $
             test ! (Below 𝓤 H A (Under j ys) (Inv l₀ l₁ l₂ l₃ l₄ l₅ l₆ l₇ l₈ l₉) t) (load ! (from ! (stop !)) (look ! 12 refl))
             (λ h. let going = is-false (at t .done) h in let fields = LL.owed S.the-type S′.the-laws (at t) _ iS in
             assigns ! (of-opd ! (load ! (from ! (stop !)) (look ! 18 refl))) (from ! (stop !))
             (init ! 10 refl (LL.lawful (T.the-type αᵉ) (T′.the-laws αᵉ) 𝓤 H A W .typed (readerAt x (at t .slot)) _ is .0)) $
-            assigns ! (addr ! (from ! (fld ! refl (hop ! (look-in ! 20 (sub ! 0 refl (whole !))) (stop !))))) (from ! (stop !)) (init ! 8 refl (tt, tt)) $
+            assigns ! (addr ! (from ! (fld ! refl (hop ! (look-in ! 20 (sub ! 0 refl (whole !))) (stop !))))) (from ! (stop !))
+            (init ! 8 refl (tt, tt)) $
             assigns !
             (agg ! (and-then ! (load ! (from ! (stop !)) (look ! 8 refl))
             (and-then ! (load ! (from ! (fld ! refl (stop !))) (look-in ! 20 (sub ! 1 refl (whole !)))) (no-more !))))
@@ -310,13 +316,16 @@ module _ {M : Type 1} (𝓤 : URA M) (H : Heap 𝓤) (A : Atoms 𝓤) (W : Given
             move ! (2 ∷ []) $ drop ! $ move ! (4 ∷ []) $ drop ! $ move ! (3 ∷ 0 ∷ 2 ∷ 1 ∷ []) $
             peeks ! (U.the-row α) (Is (U.the-row α)) (shows 𝓤 H A (U.the-row α)) (answer t) (u′ ∷ []) (λ iU.
             land ! (from ! (stop !)) (init ! 13 refl (LL.lawful (U.the-type αᵉ) (U′.the-laws αᵉ) 𝓤 H A W .typed (answer t) _ iU .0)) $
-            rewrite ! 13 (λ (m : Val). ‵ (fat fullShare (U′.mir erased) l₅ 0 m)) (ap only (LL.tells (U.the-type α) (U′.the-laws α) (answer t) _ iU)) refl $
+            rewrite ! 13 (λ (m : Val). ‵ (fat fullShare (U′.mir erased) l₅ 0 m)) (ap only (LL.tells (U.the-type α) (U′.the-laws α) (answer t) _ iU))
+            refl $
             -- the answer is taken apart
             use1 W
-            (given (u′ ∷ [] ≡ U′.lowered (answer t) ∷ []) (‵ (all-own (U.the-type α .parts) (U′.the-laws α) (answer t .reader, (answer t .progress, tt)))))
+            (given (u′ ∷ [] ≡ U′.lowered (answer t) ∷ [])
+            (‵ (all-own (U.the-type α .parts) (U′.the-laws α) (answer t .reader, (answer t .progress, tt)))))
             (own-open 𝓤 H A W (U.the-type α) (U′.the-laws α) (answer t .reader, (answer t .progress, tt)) u′) $
             learn ! (λ _. fsplit ! $ move ! (1 ∷ []) $ fsplit ! $ move ! (1 ∷ []) $ drop ! $
-            peeks ! S.the-row (Is S.the-row) (shows 𝓤 H A S.the-row) (answer t .progress) (S′.lowered (answer t .progress) ∷ []) (λ iS′. move ! (1 ∷ 0 ∷ []) $
+            peeks ! S.the-row (Is S.the-row) (shows 𝓤 H A S.the-row) (answer t .progress) (S′.lowered (answer t .progress) ∷ []) (λ iS′.
+            move ! (1 ∷ 0 ∷ []) $
             peeks ! (T.the-row α) (Is (T.the-row α)) (shows 𝓤 H A (T.the-row α)) (answer t .reader) (T′.lowered (answer t .reader) ∷ []) (λ is′.
             -- [the reader; the numbers; the words; κ; κ′; what the journal owns; _9 at 6; ..; _5 at 14; _4 at 16; _3 at 18; ..]
             assigns ! (of-opd ! (load ! (from ! (fld ! refl (stop !))) (look-in ! 14 (sub ! 0 refl (whole !))))) (from ! (stop !))
@@ -329,7 +338,8 @@ module _ {M : Type 1} (𝓤 : URA M) (H : Heap 𝓤) (A : Atoms 𝓤) (W : Given
             (λ h.
             assigns ! (of-opd ! (load ! (from ! (stop !)) (look ! 16 refl))) (from ! (stop !))
             (init ! 24 refl (LL.lawful S.the-type S′.the-laws 𝓤 H A W .typed (at t) _ iS .0)) $
-            returns ! (look ! 24 refl) $ forget ! 12 refl $ forget ! 16 refl $ forget ! 18 refl $ forget ! 20 refl $ forget ! 22 refl $ forget ! 24 refl $
+            returns ! (look ! 24 refl) $
+            forget ! 12 refl $ forget ! 16 refl $ forget ! 18 refl $ forget ! 20 refl $ forget ! 22 refl $ forget ! 24 refl $
             move ! (24 ∷ 25 ∷ []) $ free1 ! $ move ! (22 ∷ 23 ∷ []) $ free1 ! $ move ! (20 ∷ 21 ∷ []) $ free1 ! $ move ! (18 ∷ 19 ∷ []) $ free1 ! $
             move ! (16 ∷ 17 ∷ []) $ free1 ! $ move ! (14 ∷ 15 ∷ []) $ free1 ! $ move ! (12 ∷ 13 ∷ []) $ free1 ! $ move ! (10 ∷ 11 ∷ []) $ free1 ! $
             move ! (8 ∷ 9 ∷ []) $ free1 ! $ move ! (6 ∷ 7 ∷ []) $ free1 ! $ free0 ! $

@@ -1,6 +1,6 @@
--- `reader::Reader::next` meets its contract: a walk of its MIR, by hand. The struct is taken apart, `journal::take_slot` is called on the slice and the
--- numbers, and a struct is made anew of the slice and of the answer. The struct is Copy; the words go to the callee at their own lifetime, share and
--- name (`gave-slice`). Assumes nothing.
+-- `reader::Reader::next` meets its contract: a walk of its MIR, by hand. The struct is taken apart, `journal::take_slot` is called on the slice and
+-- the numbers, and a struct is made anew of the slice and of the answer. The struct is Copy; the words go to the callee at their own lifetime, share
+-- and name (`gave-slice`). Assumes nothing.
 use mathlib.Core.Path.{_≡_, refl, ap, subst}
 use Prim.Native.Nat.{ℕ, _<_, _^_}
 use mathlib.Core.List.{List, [], _∷_}
@@ -53,7 +53,7 @@ use Rattle.journal.proofs.take_slot as take
 use Rattle.journal.proofs.take_slot.Symbol as take-def
 use Rattle.journal.proofs.take_slot.Symbol.{name as #journal·take-slot}
 use Rattle.journal.proofs.take_slot.Met as take-thm
-use Rattle.reader.specs.Reader.{Reader, Taken, readerAt, stepAt, movedTo}
+use Rattle.reader.specs.Reader.{Reader, readerAt, stepAt, movedTo}
 use Rattle.reader.proofs.Reader as T
 use Rattle.reader.proofs.Reader.Laws as T′
 use Rattle.reader.proofs.Taken as U
@@ -165,7 +165,7 @@ module _ {M : Type 1} (𝓤 : URA M) (H : Heap 𝓤) (A : Atoms 𝓤) (W : Given
       apart slot-fits =
           qed W (Tokens ∷ ‵ (owns (B κs ∷ MutSlice (named 1) κ′ u64 ∷ usize ∷ usize ∷ []) a vals) ∷ []) ∵
           move ! (1 ∷ []) $ fsplit ! $ use1 W (‵ OwnJournal ⊛ ‵ Own) journal-out $ split ! $ move ! (2 ∷ []) $
-          -- [what the words and the numbers own; what the journal owns; what the struct owns; the tokens]: all but the journal is as the callee asks it
+          -- [what the words and the numbers own; what the journal owns; what the struct owns; the tokens]
           owned ! usize (Is usize) (uint-makes 𝓤 H A W w64) (d .slot) _ (refl, slot-fits) $ fjoin ! $ move ! (1 ∷ 0 ∷ []) $ fjoin ! $
           move ! (2 ∷ 0 ∷ []) $ use2 W (raw (Take .pre to)) asked $ frame ! $ done !
 
@@ -203,9 +203,12 @@ module _ {M : Type 1} (𝓤 : URA M) (H : Heap 𝓤) (A : Atoms 𝓤) (W : Given
             pass1 ! (init ! 20 refl wt) $ pass1 ! (init ! 18 refl (tt, (tt, (record { fits = room .0 }, tt)))) $
             pass1 ! (init ! 16 refl (tt, record { fits = written-fits })) $ pass1 ! (init ! 14 refl (tt, record { fits = nodes-fits })) $ pass0 ! $
             -- the journal, the slot, and the words are put into locals for the call
-            assigns ! (of-opd ! (load ! (from ! (fld ! refl (stop !))) (look-in ! 20 (sub ! 0 refl (whole !))))) (from ! (stop !)) (init ! 10 refl (tt, wt .1 .0)) $
-            assigns ! (of-opd ! (load ! (from ! (fld ! refl (stop !))) (look-in ! 20 (sub ! 1 refl (whole !))))) (from ! (stop !)) (init ! 8 refl (tt, wt .1 .1 .0)) $
-            assigns ! (addr ! (from ! (fld ! refl (hop ! (look-in ! 18 (sub ! 0 refl (whole !))) (stop !))))) (from ! (stop !)) (init ! 6 refl (tt, tt)) $
+            assigns ! (of-opd ! (load ! (from ! (fld ! refl (stop !))) (look-in ! 20 (sub ! 0 refl (whole !))))) (from ! (stop !))
+            (init ! 10 refl (tt, wt .1 .0)) $
+            assigns ! (of-opd ! (load ! (from ! (fld ! refl (stop !))) (look-in ! 20 (sub ! 1 refl (whole !))))) (from ! (stop !))
+            (init ! 8 refl (tt, wt .1 .1 .0)) $
+            assigns ! (addr ! (from ! (fld ! refl (hop ! (look-in ! 18 (sub ! 0 refl (whole !))) (stop !))))) (from ! (stop !))
+            (init ! 6 refl (tt, tt)) $
             assigns !
             (agg ! (and-then ! (load ! (from ! (stop !)) (look ! 6 refl))
             (and-then ! (load ! (from ! (fld ! refl (stop !))) (look-in ! 18 (sub ! 1 refl (whole !)))) (no-more !))))
@@ -215,7 +218,9 @@ module _ {M : Type 1} (𝓤 : URA M) (H : Heap 𝓤) (A : Atoms 𝓤) (W : Given
             (and-then ! (load ! (from ! (stop !)) (look ! 12 refl)) (and-then ! (load ! (from ! (stop !)) (look ! 10 refl))
             (and-then ! (load ! (from ! (stop !)) (look ! 6 refl)) (and-then ! (load ! (from ! (stop !)) (look ! 18 refl))
             (and-then ! (load ! (from ! (stop !)) (look ! 16 refl)) (no-more !)))))) (λ u.
-            use1 W (later (some (λ (r : Progress). (Tokens ⊛ ‵ (S.the-row .own r (u ∷ []))) ⊛ raw (ensured 𝓤 H A take.ended (take.clauses 𝓤 H A mem run) κs args tt r))))
+            use1 W
+            (later (some (λ (r : Progress).
+            (Tokens ⊛ ‵ (S.the-row .own r (u ∷ []))) ⊛ raw (ensured 𝓤 H A take.ended (take.clauses 𝓤 H A mem run) κs args tt r))))
             (id⊢ 𝓤 _) $ await ! tt $ pick ! (λ r.
             -- what `take_slot` ensures, at some last list
             split ! $ move ! (1 ∷ []) $
@@ -230,20 +235,22 @@ module _ {M : Type 1} (𝓤 : URA M) (H : Heap 𝓤) (A : Atoms 𝓤) (W : Given
             land ! (from ! (stop !)) (init ! 16 refl (LL.lawful S.the-type S′.the-laws 𝓤 H A W .typed r _ is .0)) $
             rewrite ! 16 (λ (v : Val). ‵ (fat fullShare S′.mir l₅ 0 v)) (ap only (LL.tells S.the-type S′.the-laws r _ is)) refl $
             rewrite ! 0 (λ (vs : List Val). ‵ (S.the-row .own r vs)) (LL.tells S.the-type S′.the-laws r _ is) refl $
-            assigns ! (of-opd ! (load ! (from ! (fld ! refl (stop !))) (look-in ! 24 (sub ! 0 refl (whole !))))) (from ! (stop !)) (init ! 6 refl (tt, wt .1 .0)) $
+            assigns ! (of-opd ! (load ! (from ! (fld ! refl (stop !))) (look-in ! 24 (sub ! 0 refl (whole !))))) (from ! (stop !))
+            (init ! 6 refl (tt, wt .1 .0)) $
             assigns !
             (agg ! (and-then ! (load ! (from ! (stop !)) (look ! 6 refl))
             (and-then ! (load ! (from ! (fld ! refl (stop !))) (look-in ! 16 (sub ! 0 refl (whole !)))) (no-more !))))
             (from ! (stop !)) (init ! 4 refl (tt, (wt .1 .0, (answer-typed r u is .0, tt)))) $
-            assigns ! (agg ! (and-then ! (load ! (from ! (stop !)) (look ! 4 refl)) (and-then ! (load ! (from ! (stop !)) (look ! 16 refl)) (no-more !))))
+            assigns !
+            (agg ! (and-then ! (load ! (from ! (stop !)) (look ! 4 refl)) (and-then ! (load ! (from ! (stop !)) (look ! 16 refl)) (no-more !))))
             (from ! (stop !)) (init ! 26 refl (tt, ((wt .1 .0, (answer-typed r u is .0, tt)), (answer-typed r u is, tt)))) $
             returns ! (look ! 26 refl) $
             forget ! 4 refl $ forget ! 6 refl $ forget ! 8 refl $ forget ! 10 refl $ forget ! 12 refl $ forget ! 14 refl $ forget ! 16 refl $
             forget ! 18 refl $ forget ! 20 refl $ forget ! 22 refl $ forget ! 24 refl $ forget ! 26 refl $
             move ! (26 ∷ 27 ∷ []) $ free1 ! $ move ! (24 ∷ 25 ∷ []) $ free1 ! $ move ! (22 ∷ 23 ∷ []) $ free1 ! $ move ! (20 ∷ 21 ∷ []) $ free1 ! $
             move ! (18 ∷ 19 ∷ []) $ free1 ! $ move ! (16 ∷ 17 ∷ []) $ free1 ! $ move ! (14 ∷ 15 ∷ []) $ free1 ! $ move ! (12 ∷ 13 ∷ []) $ free1 ! $
-            move ! (10 ∷ 11 ∷ []) $ free1 ! $ move ! (8 ∷ 9 ∷ []) $ free1 ! $ move ! (6 ∷ 7 ∷ []) $ free1 ! $ move ! (4 ∷ 5 ∷ []) $ free1 ! $ free0 ! $
-            by ! (exits r (zs .1 .1 .0) e l (answer-typed r u is .0 .fits))))))))))))))))))))
+            move ! (10 ∷ 11 ∷ []) $ free1 ! $ move ! (8 ∷ 9 ∷ []) $ free1 ! $ move ! (6 ∷ 7 ∷ []) $ free1 ! $ move ! (4 ∷ 5 ∷ []) $ free1 ! $
+            free0 ! $ by ! (exits r (zs .1 .1 .0) e l (answer-typed r u is .0 .fits))))))))))))))))))))
 
   next-walks : (C : Calls 𝓤 H) (Λ : Loops 𝓤 H) → FmC 𝓤 H (W .laws) C → Triple 𝓤 (C #journal·take-slot) Take
       → Walks 𝓤 H A next.ended stayed (WpFn 𝓤 H C Λ code.function) (next.clauses 𝓤 H A mem run)
