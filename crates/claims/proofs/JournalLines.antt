@@ -44,10 +44,11 @@ use Rattle.journals.proofs.AfterWrites.{after-write}
 use Rattle.journals.proofs.Cuts.{length-upTo, getD-upTo, power-cut}
 use Rattle.journals.proofs.RoundTrips.{round-trip}
 use Rattle.journals.proofs.Finding.{found-exactly, found-counts, node-notFound}
-use Rattle.journals.proofs.Theorem.{records}
+use Rattle.journals.proofs.Theorem.{replays, records}
 use Rattle.journals.proofs.OneRule.{right-once, one-recovery, one-writer}
 use Rattle.journals.proofs.WrongWriters.{wrong-writers-excluded}
-use Rattle.claims.specs.Journals.{TheCheck, TheBlock, TheSlots, JournalRefusals, RecoversTo, TheJournal, ThePowerCut, TheRecord, OneJournalRule, WrongJournalRules}
+use Rattle.claims.specs.Journals.{TheCheck, TheBlock, TheSlots, JournalRefusals, RecoversTo, TheJournal, ThePowerCut}
+use Rattle.claims.specs.Journals.{TheRecord, OneJournalRule, WrongJournalRules}
 
 pub the-check : TheCheck
 unfolding bit movedUp shiftIn shiftBits shiftOctet crcFrom crc remainder
@@ -217,8 +218,8 @@ the-slots = record {
     λ h. record { node = h .0; kind = h .1; stands = h .2; given = h .3; child = h .4 },
   );
   isReplayed = λ xs nodes. (
-    λ r. (r .requests, r .addressesGiven, r .theNodes, r .few, r .demand3),
-    λ h. record { requests = h .0; addressesGiven = h .1; theNodes = h .2; few = h .3; demand3 = h .4 },
+    λ r. (r .requests, r .addressesGiven, r .theNodes, r .few),
+    λ h. record { requests = h .0; addressesGiven = h .1; theNodes = h .2; few = h .3 },
   );
   isFirstFault = λ xs n. (
     λ f. (f .requests, f .address, f .rest, f .addressesGiven, f .few, f .number),
@@ -246,7 +247,9 @@ unfolding withSlot joined
 the-journal = record {
   aHall = λ journal words all z.
       let (nodes, e, same, l) = recoverEnd-without (recovering-end journal words) z in
-      (nodes, right-replayed journal all nodes e, recovers-known journal nodes l e);
+      let right = right-replayed journal all nodes e in
+      let (rs, given, tree, demand3) = replays .demand3 (right .addresses) nodes (right .replayed) in
+      (nodes, right, recovers-known journal nodes l e, (rs, tree, demand3));
   theSlot = λ journal xs all z.
       let (first, stored) = write-refusals .without journal xs all z in (
         first .before,
@@ -283,7 +286,9 @@ the-power-cut = record {
         nodes,
         before,
         λ k h. power-cut .before journal xs nodes k accepts before h,
-        subst (λ (places : List ℕ). RecoversTo (storedAt (writing journal xs .answer .slot) places (writing journal xs .journal) journal) (nodes ++ xs))
+        subst
+            (λ (places : List ℕ).
+            RecoversTo (storedAt (writing journal xs .answer .slot) places (writing journal xs .journal) journal) (nodes ++ xs))
             (take-all 512 inOrder (omega (arith, length-upTo 512)))
             (power-cut .after journal xs nodes accepts before),
       );

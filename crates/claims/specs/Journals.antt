@@ -99,10 +99,10 @@ pub record TheSlots : Type 0 where
   pub nextChild : (t : Tree) (a : ℕ)
       → IsNextChild t a
       ↔ ((n : Node) × (kind : Kind) × (recordOf (addressIn n) t ≡ standing n) × (childOf n kind .refusal ≡ 0) × (childOf n kind .child .number ≡ a))
-  -- addresses replayed without a fault: those given in a list of requests, whose tree has not more than 512 nodes, and demand 3
+  -- addresses replayed without a fault: those given in a list of requests, whose tree has not more than 512 nodes
   pub isReplayed : (xs nodes : List ℕ)
       → IsReplayed xs nodes
-      ↔ ((rs : List Request) × (xs ≡ givenIn childOf rs) × (nodes ≡ addresses (grown childOf rs)) × (length nodes ≤ 512) × Demand3 childOf packetHop rs)
+      ↔ ((rs : List Request) × (xs ≡ givenIn childOf rs) × (nodes ≡ addresses (grown childOf rs)) × (length nodes ≤ 512))
   -- the first address with a fault: "a 513th node, the root counted, is 14, but 17 if it is no next child"
   pub isFirstFault : (xs : List ℕ) (n : ℕ)
       → IsFirstFault xs n
@@ -183,12 +183,14 @@ pub record TheJournal : Type 0 where
   -- whatever is recovered is a tree of demand 3
   pub aHall : (journal words : List ℕ) → AreOctets journal → recovering journal words .answer .refusal ≡ 0
       → (nodes : List ℕ) × Right (slotsOf journal) nodes × RecoversTo journal nodes
+      × ((rs : List Request) × (nodes ≡ addresses (grown childOf rs)) × Demand3 childOf packetHop rs)
   -- "A block goes to the first wholly erased slot.", and no other byte of the journal is changed
   pub theSlot : (journal xs : List ℕ) → AreOctets journal → writing journal xs .answer .refusal ≡ 0
       → (before : List (List ℕ)) × (erased : List ℕ) × (rest : List (List ℕ)) × (slotsOf journal ≡ before ++ erased ∷ rest)
       × (writing journal xs .answer .slot ≡ length before) × NoneErased before × (erased ≡ replicate 512 0xFF)
       × (writing journal xs .journal ≡ withSlot (length before) (block xs) journal)
-  pub itsPlace : (slot : ℕ) (bytes journal : List ℕ) → withSlot slot bytes journal ≡ take (512 * slot) journal ++ (bytes ++ drop (512 * slot + 512) journal)
+  pub itsPlace : (slot : ℕ) (bytes journal : List ℕ)
+      → withSlot slot bytes journal ≡ take (512 * slot) journal ++ (bytes ++ drop (512 * slot + 512) journal)
   -- after a write: for every journal that the writer accepts, what was recovered before and then the block's addresses, in order
   pub afterAWrite : (journal xs : List ℕ) → AreOctets journal → AreWords xs → writing journal xs .answer .refusal ≡ 0
       → (nodes : List ℕ) × RecoversTo journal nodes × RecoversTo (writing journal xs .journal) (nodes ++ xs)
@@ -248,9 +250,11 @@ pub record TheRecord : Type 0 where
 -- the refusals, with what is left beside them and without them, leave one recovery and one writer: whatever answers or leaves otherwise anywhere is
 -- excluded
 pub record OneJournalRule : Type 0 where
-  pub toRecover : (rule : RecoverRule) → RecoverRefusals rule → (journal words : List ℕ) → AreOctets journal → rule journal words ≡ recovering journal words
+  pub toRecover : (rule : RecoverRule) → RecoverRefusals rule → (journal words : List ℕ) → AreOctets journal
+      → rule journal words ≡ recovering journal words
   pub ours : RecoverRefusals recovering
-  pub toWrite : (rule : WriteRule) → WriteRefusals rule → (journal xs : List ℕ) → AreOctets journal → AreWords xs → rule journal xs ≡ writing journal xs
+  pub toWrite : (rule : WriteRule) → WriteRefusals rule → (journal xs : List ℕ) → AreOctets journal → AreWords xs
+      → rule journal xs ≡ writing journal xs
   pub oursToo : WriteRefusals writing
 
 -- some that are

@@ -10,15 +10,16 @@ use Rattle.address.specs.Choice.{if_then_else_}
 use Rattle.octets.specs.Octets.{AreOctets}
 use Rattle.block.specs.Block.{slotBytes, block}
 use Rattle.block.specs.Blocks.{AreWords, IsCount}
+use Rattle.block.proofs.Theorem.{blocks}
 use Rattle.journal.specs.Limits.{mostNodes}
 use Rattle.journal.specs.Replay.{Replay, known, fault, isNext, taken, next, follow}
 use Rattle.journal.specs.Slots.{slotCount, slotsOf, replayed, writtenSlots}
 use Rattle.journal.specs.Recovery.{recovering}
 use Rattle.journal.specs.Writing.{withSlot, BlockEffect, writing}
+use Rattle.journal.proofs.ReplayLaws.{follow-fault}
 use Rattle.journals.specs.Slots.{IsLength, IsErased, AllErased, Right}
 use Rattle.journals.specs.PowerCuts.{RecoversTo, AfterWrite}
-use Rattle.journals.proofs.Outcomes.{follow-fault}
-use Rattle.journals.proofs.SlotTests.{IsSlot, isBlockOf-slot, block-isBlockOf}
+use Rattle.journals.proofs.SlotTests.{IsSlot, block-isBlockOf}
 use Rattle.journals.proofs.SlotReplays.{holds-block}
 use Rattle.journals.proofs.Recovering.{known-fault, right-replayed, recovers-known}
 use Rattle.journals.proofs.Placing.{writtenSlots-right, firstErased-left, length-withSlot, octets-withSlot, replayed-withSlot}
@@ -92,7 +93,8 @@ module _ (journal addresses : List ℕ) (all : AreOctets journal) (accepted : wr
             wrote = ap (λ (x : BlockEffect). x .journal) w ∙ (unfold written in refl);
           }
 
-      go : Sized journal addresses × (nodes : List ℕ) × (more : List ℕ) × (replayed journal ≡ known nodes) × (follow (known nodes) addresses ≡ known more)
+      go : Sized journal addresses × (nodes : List ℕ) × (more : List ℕ)
+          × (replayed journal ≡ known nodes) × (follow (known nodes) addresses ≡ known more)
           × (writtenSlots (slotsOf journal) < slotCount journal)
           × (writing journal addresses ≡ written (writtenSlots (slotsOf journal)) addresses journal)
           → (nodes : List ℕ) × Put journal addresses nodes
@@ -106,36 +108,37 @@ module _ {journal addresses nodes : List ℕ} (all : AreOctets journal) (put : P
 
   pub isLength-put : (new : List ℕ) → IsSlot new → IsLength (length (withSlot at new journal))
   isLength-put new s =
-      subst IsLength (sym (length-withSlot journal (put .isLong) all (put .right .written) (put .erased) (put .rest) (put .parts) new s)) (put .isLong)
+      subst IsLength (sym (length-withSlot journal (put .isLong) all (put .right .written) (put .erased) (put .rest) (put .parts) new s))
+      (put .isLong)
 
-  pub slot-block : AreWords addresses → IsSlot (block addresses)
-  slot-block words = isBlockOf-slot (block-isBlockOf addresses words (put .counted))
+  pub slot-block : IsSlot (block addresses)
+  slot-block = let whole = blocks .whole addresses (put .counted) in record { size = whole .0; octets = whole .3 }
 
   pub replayed-put : AreWords addresses → replayed (withSlot at (block addresses) journal) ≡ known (nodes ++ addresses)
   replayed-put words =
-      replayed-withSlot journal (put .isLong) all (put .right .written) (put .erased) (put .rest) (put .parts) (block addresses) (slot-block words)
+      replayed-withSlot journal (put .isLong) all (put .right .written) (put .erased) (put .rest) (put .parts) (block addresses) slot-block
       (put .right .holds) (put .right .replayed) (holds-block (block-isBlockOf addresses words (put .counted))) (put .free)
       ∙ put .follows
 
-  pub octets-put : AreWords addresses → AreOctets (withSlot at (block addresses) journal)
-  octets-put words =
-      octets-withSlot journal (put .isLong) all (put .right .written) (put .erased) (put .rest) (put .parts) (block addresses) (slot-block words)
+  pub octets-put : AreOctets (withSlot at (block addresses) journal)
+  octets-put =
+      octets-withSlot journal (put .isLong) all (put .right .written) (put .erased) (put .rest) (put .parts) (block addresses) slot-block
 
-  pub slotCount-put : AreWords addresses → slotCount (withSlot at (block addresses) journal) ≡ slotCount journal
-  slotCount-put words =
+  pub slotCount-put : slotCount (withSlot at (block addresses) journal) ≡ slotCount journal
+  slotCount-put =
       ap (λ (k : ℕ). k / slotBytes)
-      (length-withSlot journal (put .isLong) all (put .right .written) (put .erased) (put .rest) (put .parts) (block addresses) (slot-block words))
+      (length-withSlot journal (put .isLong) all (put .right .written) (put .erased) (put .rest) (put .parts) (block addresses) slot-block)
 
   -- one slot more is written
   pub writtenSlots-put : AreWords addresses → writtenSlots (slotsOf (withSlot at (block addresses) journal)) ≡ suc (writtenSlots (slotsOf journal))
   writtenSlots-put words =
-      writtenSlots-withSlot journal (put .isLong) all (put .right .written) (put .erased) (put .rest) (put .parts) (block addresses) (slot-block words)
+      writtenSlots-withSlot journal (put .isLong) all (put .right .written) (put .erased) (put .rest) (put .parts) (block addresses) slot-block
       (put .right .holds) (holds-block (block-isBlockOf addresses words (put .counted))) (put .free)
       ∙ ap suc (sym (writtenSlots-right journal nodes all (put .right)))
 
   pub recovers-put : AreWords addresses → RecoversTo recovering (withSlot at (block addresses) journal) (nodes ++ addresses)
   recovers-put words =
-      recovers-known (withSlot at (block addresses) journal) (nodes ++ addresses) (isLength-put (block addresses) (slot-block words))
+      recovers-known (withSlot at (block addresses) journal) (nodes ++ addresses) (isLength-put (block addresses) slot-block)
       (replayed-put words)
 
 pub after-write : AfterWrite writing recovering

@@ -104,7 +104,8 @@ module _ (words : List ℕ) (a : ℕ) where
       → (addressIn (recordIn words a .node) ≡ a) × ((kind : Kind) → count kind (recordIn words a .node) ≡ min (children kind a words) mostCounted)
   found-counts f = go finds
     where
-      go : Finds → (addressIn (recordIn words a .node) ≡ a) × ((kind : Kind) → count kind (recordIn words a .node) ≡ min (children kind a words) mostCounted)
+      go : Finds
+          → (addressIn (recordIn words a .node) ≡ a) × ((kind : Kind) → count kind (recordIn words a .node) ≡ min (children kind a words) mostCounted)
       go (there some e) = (addressIn-there some e, λ kind. count-there some e kind)
       go (notThere out e n) = absurd (true≢false (sym f ∙ e))
 

@@ -18,18 +18,11 @@ use Rattle.tree.proofs.Given.{givenBy-append, addresses-ask, addresses-grow}
 use Rattle.tree.proofs.Runs.{replies-standing, replies-absent}
 use Rattle.journal.specs.Limits.{mostNodes}
 use Rattle.journal.specs.Replay.{Replay, known, fault, next, follow, bare}
+use Rattle.journal.proofs.ReplayLaws.{follow-fault, follow-append}
 use Rattle.block.specs.Blocks.{AreWords}
 use Rattle.journals.specs.Replays.{IsNextChild, nodesOf, IsReplayed, IsFault, IsFirstFault}
 use Rattle.journals.proofs.NextChild.{address-next}
-use Rattle.journals.proofs.Outcomes.{follow-fault}
 use Rattle.journals.proofs.Taking.{next-oneMore, next-noChild, next-tooMany}
-
--- ---- one after the other
-
-pub follow-append : (r : Replay) (xs ys : List ℕ) → follow r (xs ++ ys) ≡ follow (follow r xs) ys
-unfolding follow
-follow-append r [] ys = refl
-follow-append r (a ∷ xs) ys = follow-append (next r a) xs ys
 
 pub areWords-behind : (xs ys : List ℕ) → AreWords (xs ++ ys) → AreWords ys
 areWords-behind [] ys w = w

@@ -19,7 +19,9 @@ pub mod Writing
 pub mod AfterWrites
 pub mod Cuts
 pub mod Erased
+pub mod Orders
 pub mod RoundTrips
 pub mod OneRule
 pub mod WrongWriters
+pub mod WrongRecoveries
 pub mod Theorem

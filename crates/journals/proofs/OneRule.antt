@@ -89,8 +89,8 @@ first-erased-once (x ∷ xs) (y ∷ ys) a b us vs e p q f g =
 first-erased-one : {slots : List (List ℕ)} {j k : ℕ} → IsFirstErased slots j → IsFirstErased slots k → j ≡ k
 first-erased-one p q =
     p .place
-    ∙ first-erased-once (p .before) (q .before) (p .erased) (q .erased) (p .rest) (q .rest) (sym (p .parts) ∙ q .parts) (p .noneBefore) (q .noneBefore)
-    (p .free) (q .free)
+    ∙ first-erased-once (p .before) (q .before) (p .erased) (q .erased) (p .rest) (q .rest) (sym (p .parts) ∙ q .parts)
+    (p .noneBefore) (q .noneBefore) (p .free) (q .free)
     ∙ sym (q .place)
 
 module _ (rule : WriteRule) (claim : WriteRefusals rule) (journal addresses : List ℕ) (all : AreOctets journal) (words : AreWords addresses) where

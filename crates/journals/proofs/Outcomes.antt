@@ -14,19 +14,12 @@ use Rattle.tree.specs.Tree.{Request, request, bareRoot, Reply, replied, grow, g
 use Rattle.tree.proofs.Growth.{sound-grown}
 use Rattle.tree.proofs.Given.{addresses-ask, addresses-grown}
 use Rattle.tree.proofs.Runs.{grown-snoc, replies-standing}
-use Rattle.tree.proofs.Theorem.{demand-3}
 use Rattle.journal.specs.Limits.{mostNodes}
 use Rattle.journal.specs.Replay.{Replay, known, fault, next, follow, bare}
+use Rattle.journal.proofs.ReplayLaws.{follow-fault}
 use Rattle.block.specs.Blocks.{AreWords}
 use Rattle.journals.specs.Replays.{IsNextChild, nodesOf, IsReplayed, IsFirstFault}
 use Rattle.journals.proofs.Taking.{Taken, noChild, tooMany, oneMore, next-sound}
-
--- ---- a fault stays
-
-pub follow-fault : (n : ℕ) (xs : List ℕ) → follow (fault n) xs ≡ fault n
-unfolding follow next
-follow-fault n [] = refl
-follow-fault n (a ∷ xs) = follow-fault n xs
 
 -- ---- a next child is one request more
 
@@ -58,13 +51,7 @@ Outcome journal (fault n) = IsFirstFault journal n
 pub outcome : (rs : List Request) (xs : List ℕ) → AreWords xs → length (nodesOf rs) ≤ mostNodes
     → Outcome (givenIn childOf rs ++ xs) (follow (known (nodesOf rs)) xs)
 unfolding follow
-outcome rs [] w few = record {
-  requests = rs;
-  addressesGiven = append-nil (givenIn childOf rs);
-  theNodes = refl;
-  few = few;
-  demand3 = demand-3 rs;
-}
+outcome rs [] w few = record { requests = rs; addressesGiven = append-nil (givenIn childOf rs); theNodes = refl; few = few }
 outcome rs (a ∷ xs) w few =
     go (next (known (nodesOf rs)) a) (next-sound (grown childOf rs) (sound-grown rs) a (w .0)) (λ rs few. outcome rs xs (w .1) few)
   where

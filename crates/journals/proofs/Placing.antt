@@ -12,11 +12,12 @@ use Rattle.block.specs.Block.{slotBytes}
 use Rattle.journal.specs.Replay.{Replay, known, follow, bare}
 use Rattle.journal.specs.Slots.{slotCount, slotsOf, replay, replayed, writtenSlots}
 use Rattle.journal.specs.Writing.{withSlot}
+use Rattle.journal.proofs.ReplayLaws.{follow-append}
 use Rattle.journals.specs.Replays.{IsReplayed}
 use Rattle.journals.specs.Slots.{IsLength, IsErased, Holds, AllErased, Right}
 use Rattle.journals.specs.Refusals.{NoneErased, Written, none, skipped, kept, IsFirstErased}
 use Rattle.journals.specs.RoundTrip.{joined}
-use Rattle.journals.proofs.GivenReplayed.{follow-append, follow-replayed}
+use Rattle.journals.proofs.GivenReplayed.{follow-replayed}
 use Rattle.journals.proofs.SlotTests.{IsSlot, AreSlots, areSlots-append, areSlots-front, areSlots-behind, isErased-erased, isErased-other}
 use Rattle.journals.proofs.SlotReplays.{holds-append, holds-noneErased, replay-written}
 use Rattle.journals.proofs.Lengths.{length-slotsOf, slots-slotsOf, joined-slotsOf, length-joined, slotsOf-joined, octets-joined, joined-append}

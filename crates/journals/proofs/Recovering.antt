@@ -70,7 +70,8 @@ pub data RecoverEnd (journal words : List ℕ) : RecoverEffect → Type 0 where
       → RecoverEnd journal words (recoveredTo nodes words)
 
 module _ (journal words : List ℕ) where
-  restored-end : IsLength (length journal) → mostNodes ≤ length words → (r : Replay) → replayed journal ≡ r → RecoverEnd journal words (restored r words)
+  restored-end : IsLength (length journal) → mostNodes ≤ length words → (r : Replay) → replayed journal ≡ r
+      → RecoverEnd journal words (restored r words)
   unfolding restored
   restored-end h room (known nodes) e = whole h room nodes e
   restored-end h room (fault n) e = faulty h room n e
@@ -89,7 +90,8 @@ module _ (journal words : List ℕ) where
 -- ---- what each end says
 
 module _ {journal words : List ℕ} where
-  pub recoverEnd-first : AreOctets journal → {e : RecoverEffect} → RecoverEnd journal words e → First (recoverOrder journal words) (e .answer .refusal)
+  pub recoverEnd-first : AreOctets journal → {e : RecoverEffect} → RecoverEnd journal words e
+      → First (recoverOrder journal words) (e .answer .refusal)
   unfolding refuseRecovery
   recoverEnd-first all (wrongLength out) = inl (out, refl)
   recoverEnd-first all (noRoom h short) = inr (λ o. o h, inl (short, refl))

@@ -17,12 +17,13 @@ use Rattle.journal.specs.Replay.{Replay, known, fault, follow, bare}
 use Rattle.journal.specs.Slots.{slotCount, slotsOf, replayed, writtenSlots}
 use Rattle.journal.specs.Recovery.{recovering}
 use Rattle.journal.specs.Writing.{writing}
+use Rattle.journal.proofs.ReplayLaws.{follow-fault, follow-append}
 use Rattle.journals.specs.Replays.{nodesOf}
 use Rattle.journals.specs.Slots.{IsLength}
 use Rattle.journals.specs.PowerCuts.{RecoversTo}
 use Rattle.journals.specs.RoundTrip.{joined, AreBlocks, AllWritten, RoundTrip}
-use Rattle.journals.proofs.Outcomes.{follow-fault, nodesOf-none}
-use Rattle.journals.proofs.GivenReplayed.{follow-append, follow-grown, areWords-behind}
+use Rattle.journals.proofs.Outcomes.{nodesOf-none}
+use Rattle.journals.proofs.GivenReplayed.{follow-grown, areWords-behind}
 use Rattle.journals.proofs.Lengths.{length-slotsOf}
 use Rattle.journals.proofs.Recovering.{known-fault, right-replayed, recovers-known, known-recovers}
 use Rattle.journals.proofs.Placing.{written-only, writtenSlots-right}
@@ -51,7 +52,8 @@ follow-front nodes xs ys after e = go (follow (known nodes) xs) refl
     both : follow (follow (known nodes) xs) ys ≡ known after
     both = sym (follow-append (known nodes) xs ys) ∙ e
 
-    go : (r : Replay) → follow (known nodes) xs ≡ r → (more : List ℕ) × (follow (known nodes) xs ≡ known more) × (follow (known more) ys ≡ known after)
+    go : (r : Replay) → follow (known nodes) xs ≡ r
+        → (more : List ℕ) × (follow (known nodes) xs ≡ known more) × (follow (known more) ys ≡ known after)
     go (known more) f = (more, f, ap (λ (r : Replay). follow r ys) (sym f) ∙ both)
     go (fault n) f = absurd (known-fault (sym both ∙ ap (λ (r : Replay). follow r ys) f ∙ follow-fault n ys))
 
@@ -65,18 +67,19 @@ module _ (journal nodes xs more : List ℕ) (k : ℕ) (w : Onward journal nodes 
     where
       go : (found : List ℕ) × Put journal xs found → Onward (writing journal xs .journal) more k
       go (found, put) = subst (λ (j : List ℕ). Onward j more k) (sym (put .wrote)) (record {
-        isLong = isLength-put (w .octets) put (block xs) (slot-block (w .octets) put words);
-        octets = octets-put (w .octets) put words;
+        isLong = isLength-put (w .octets) put (block xs) (slot-block (w .octets) put);
+        octets = octets-put (w .octets) put;
         replays =
             let same = sym (put .replays) ∙ w .replays in
             let nodes-same : found ≡ nodes = cc in
             let follows = sym (put .follows) ∙ ap (λ (l : List ℕ). follow (known l) xs) nodes-same ∙ e in
             replayed-put (w .octets) put words ∙ follows;
-        room = omega (arith, w .room, writtenSlots-put (w .octets) put words, slotCount-put (w .octets) put words);
+        room = omega (arith, w .room, writtenSlots-put (w .octets) put words, slotCount-put (w .octets) put);
       })
 
-all-written : (blocks : List (List ℕ)) (journal nodes after : List ℕ) → Onward journal nodes (length blocks) → AreBlocks blocks → AreWords (joined blocks)
-    → follow (known nodes) (joined blocks) ≡ known after → AllWritten writing journal blocks (λ j. RecoversTo recovering j after)
+all-written : (blocks : List (List ℕ)) (journal nodes after : List ℕ) → Onward journal nodes (length blocks) → AreBlocks blocks
+    → AreWords (joined blocks) → follow (known nodes) (joined blocks) ≡ known after
+    → AllWritten writing journal blocks (λ j. RecoversTo recovering j after)
 unfolding joined follow
 all-written [] journal nodes after w counts words e = recovers-known journal after (w .isLong) (w .replays ∙ e)
 all-written (xs ∷ blocks) journal nodes after w counts words e =

@@ -14,10 +14,11 @@ use Rattle.block.specs.Blocks.{IsBlockOf}
 use Rattle.block.proofs.Theorem.{blocks}
 use Rattle.journal.specs.Replay.{Replay, known, fault, follow, bare}
 use Rattle.journal.specs.Slots.{isErased, endsErased, slotTaken, replay}
+use Rattle.journal.proofs.ReplayLaws.{follow-append}
 use Rattle.journals.specs.Replays.{IsReplayed}
 use Rattle.journals.specs.Slots.{IsErased, EndsErased, Holds, none, AllErased, Right, Fault, misplaced, noBlock, wrongAddress}
 use Rattle.journals.proofs.Outcomes.{Outcome, outcome-bare}
-use Rattle.journals.proofs.GivenReplayed.{follow-append, follow-replayed, follow-firstFault}
+use Rattle.journals.proofs.GivenReplayed.{follow-replayed, follow-firstFault}
 use Rattle.journals.proofs.SlotTests.{IsSlot, AreSlots, areSlots-front, areSlots-behind, erased-isErased, isErased-other, other-isErased}
 use Rattle.journals.proofs.SlotTests.{other-erased}
 use Rattle.journals.proofs.SlotTests.{ends-endsErased, other-endsErased, isBlock-none, none-isBlock, isBlockOf-ends, isBlockOf-erased}
@@ -71,7 +72,8 @@ module _ {before : List (List ℕ)} {xs : List ℕ} (h : Holds before xs) {nodes
           ∙ append-snoc (before ++ (first ∷ between)) slot slots
 
       go : (t : Bool) → isErased slot ≡ t
-          → (AllErased (between ++ (slot ∷ [])) → SlotOutcome (before ++ (first ∷ (between ++ (slot ∷ []))) ++ slots) (replay true (known nodes) slots))
+          → (AllErased (between ++ (slot ∷ []))
+          → SlotOutcome (before ++ (first ∷ (between ++ (slot ∷ []))) ++ slots) (replay true (known nodes) slots))
           → SlotOutcome (before ++ (first ∷ between) ++ slot ∷ slots) (replay true (known nodes) (slot ∷ slots))
       go true t rest =
           same-outcome regroup (sym (replay-erased true (known nodes) slot slots t))

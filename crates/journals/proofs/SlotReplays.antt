@@ -9,10 +9,9 @@ use Rattle.block.specs.Block.{isBlock, addressesIn}
 use Rattle.block.specs.Blocks.{AreWords, IsBlockOf}
 use Rattle.journal.specs.Replay.{Replay, fault, follow}
 use Rattle.journal.specs.Slots.{isErased, endsErased, spoilt, entered, notErased, slotTaken, gapAfter, replay}
+use Rattle.journal.proofs.ReplayLaws.{follow-fault, follow-append}
 use Rattle.journals.specs.Slots.{IsErased, IsTorn, Holds, none, torn, block, AllErased}
 use Rattle.journals.specs.Refusals.{NoneErased}
-use Rattle.journals.proofs.Outcomes.{follow-fault}
-use Rattle.journals.proofs.GivenReplayed.{follow-append}
 use Rattle.journals.proofs.SlotTests.{AreSlots, isErased-erased, isErased-other, isBlockOf-ends, isBlockOf-erased}
 use Rattle.journals.proofs.SlotTests.{isBlockOf-right, isBlockOf-addresses, slotTaken-erased, gapAfter-erased, gapAfter-other}
 use Rattle.journals.proofs.SlotTests.{slotTaken-torn, slotTaken-block}

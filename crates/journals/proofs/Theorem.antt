@@ -3,6 +3,7 @@ use mathlib.Core.Path.{subst}
 use Rattle.node.specs.Node.{childOf}
 use Rattle.tree.specs.Tree.{grown}
 use Rattle.tree.proofs.Growth.{sound-grown}
+use Rattle.tree.proofs.Theorem.{demand-3}
 use Rattle.journals.specs.Replays.{NextChildren, Replays, Records}
 use Rattle.journals.proofs.NextChild.{isNext-sound}
 use Rattle.journals.proofs.Taking.{next-noChild, next-tooMany, next-fault}
@@ -17,6 +18,7 @@ next-children = record { exactly = λ rs. isNext-sound (grown childOf rs) (sound
 pub replays : Replays
 replays = record {
   replayed = λ journal nodes w. (λ e. subst (Outcome journal) e (outcome-bare journal w), follow-replayed journal nodes);
+  demand3 = λ journal nodes r. (r .requests, r .addressesGiven, r .theNodes, demand-3 (r .requests));
   given = follow-grown;
   fault17 = λ rs. next-noChild (grown childOf rs) (sound-grown rs);
   fault14 = λ rs. next-tooMany (grown childOf rs) (sound-grown rs);

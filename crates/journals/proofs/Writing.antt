@@ -21,10 +21,10 @@ use Rattle.journal.specs.Slots.{slotCount, slotsOf, replay, replayed, writtenSl
 use Rattle.journal.specs.Recovery.{isLength}
 use Rattle.journal.specs.declared.Placed.{Placed}
 use Rattle.journal.specs.Writing.{refusePlacing, placing, judged, judging, withSlot, BlockEffect, stored, writing}
+use Rattle.journal.proofs.ReplayLaws.{follow-fault, follow-append}
 use Rattle.journals.specs.Slots.{IsLength, Right, Fault}
 use Rattle.journals.specs.Refusals.{FaultWith, NoneErased, IsFirstErased, writeOrder, WriteRefusals}
-use Rattle.journals.proofs.Outcomes.{follow-fault}
-use Rattle.journals.proofs.GivenReplayed.{follow-append, follow-replayed}
+use Rattle.journals.proofs.GivenReplayed.{follow-replayed}
 use Rattle.journals.proofs.SlotTests.{AreSlots, areSlots-append, isBlockOf-slot, block-isBlockOf}
 use Rattle.journals.proofs.SlotReplays.{holds-append, holds-block, replay-holds}
 use Rattle.journals.proofs.SlotOutcomes.{replay-fault-exactly}
@@ -162,7 +162,10 @@ number-follow nodes addresses f = subst Numbered f (numbered-follow (known nodes
 -- the order behind the journal's own faults
 abbrev blockOrder : List ℕ → List ℕ → Order
 blockOrder journal addresses =
-    14 when FaultWith journal addresses 14 otherwise 17 when FaultWith journal addresses 17 otherwise 10 when NoneErased (slotsOf journal) otherwise done
+    14 when FaultWith journal addresses 14
+    otherwise 17 when FaultWith journal addresses 17
+    otherwise 10 when NoneErased (slotsOf journal)
+    otherwise done
 
 module _ {journal addresses : List ℕ} where
   -- the size is right
@@ -178,7 +181,10 @@ module _ {journal addresses : List ℕ} where
       let none = known-no-faultWith journal addresses nodes all words (s .counted) e more in
       inr (
         past-size s,
-        inr (known-no-fault journal all nodes 14 e, inr (known-no-fault journal all nodes 17 e, inr (λ w. none 14 f w, inr (λ w. none 17 f w, rest)))),
+        inr (
+          known-no-fault journal all nodes 14 e,
+          inr (known-no-fault journal all nodes 17 e, inr (λ w. none 14 f w, inr (λ w. none 17 f w, rest))),
+        ),
       )
 
   pub writeEnd-first : AreOctets journal → AreWords addresses → {e : BlockEffect} → WriteEnd journal addresses e
@@ -209,7 +215,8 @@ module _ {journal addresses : List ℕ} where
   writeEnd-first all words (placed s nodes more e f l) =
       past-block all words s nodes more e f 0 (inr (some-erased journal nodes all (right-replayed journal all nodes e) l, refl))
 
-  pub writeEnd-beside : {e : BlockEffect} → WriteEnd journal addresses e → (e .answer .refusal ≡ 0 → ⊥) → (e .answer .slot ≡ 0) × (e .journal ≡ journal)
+  pub writeEnd-beside : {e : BlockEffect} → WriteEnd journal addresses e → (e .answer .refusal ≡ 0 → ⊥)
+      → (e .answer .slot ≡ 0) × (e .journal ≡ journal)
   unfolding refused written refusePlacing
   writeEnd-beside (wrongSize out) h = (refl, refl)
   writeEnd-beside (faulty s n e) h = (refl, refl)
@@ -219,8 +226,9 @@ module _ {journal addresses : List ℕ} where
 
   -- without a refusal a slot is left, and the journal and the block are replayed
   pub writeEnd-without : {e : BlockEffect} → WriteEnd journal addresses e → e .answer .refusal ≡ 0
-      → Sized journal addresses × (nodes : List ℕ) × (more : List ℕ) × (replayed journal ≡ known nodes) × (follow (known nodes) addresses ≡ known more)
-      × (writtenSlots (slotsOf journal) < slotCount journal) × (e ≡ written (writtenSlots (slotsOf journal)) addresses journal)
+      → Sized journal addresses × (nodes : List ℕ) × (more : List ℕ) × (replayed journal ≡ known nodes)
+      × (follow (known nodes) addresses ≡ known more) × (writtenSlots (slotsOf journal) < slotCount journal)
+      × (e ≡ written (writtenSlots (slotsOf journal)) addresses journal)
   unfolding refused refusePlacing
   writeEnd-without (wrongSize out) z = absurd (omega arith)
   writeEnd-without (faulty s n e) z = absurd (number-some (fault-number journal n e) z)
@@ -249,7 +257,8 @@ write-refusals = record {
 
 -- and where nothing speaks against it, none is given
 pub writing-accepts : (journal addresses nodes more : List ℕ) → Sized journal addresses → replayed journal ≡ known nodes
-    → follow (known nodes) addresses ≡ known more → writtenSlots (slotsOf journal) < slotCount journal → writing journal addresses .answer .refusal ≡ 0
+    → follow (known nodes) addresses ≡ known more → writtenSlots (slotsOf journal) < slotCount journal
+    → writing journal addresses .answer .refusal ≡ 0
 unfolding writing judging judged placing
 writing-accepts journal addresses nodes more s e f left =
     rw (

@@ -1,21 +1,17 @@
 -- Each wrong writer is refuted by one journal: of one erased slot, of two, or of one torn slot, with the block of the root's first router, or of an
 -- address that is no next child. What stands there comes from laws, not from computing 512 bytes. Assumes nothing.
 use Prim.Native.Nat.{ℕ, suc, _≤_, _<_}
-use mathlib.Core.Path.{_≡_, refl, sym, ap, subst, _∙_}
+use mathlib.Core.Path.{_≡_, refl, sym, ap, _∙_}
 use mathlib.Core.Bool.{false}
 use mathlib.Core.List.{List, [], _∷_, _++_}
 use native.Mathlib.Omega.{arith}
 use lib.Dec.{eqb, lit<}
-use lib.ListN.{length, take, drop, getD, set, replicate, length-append, length-replicate, getD-replicate, length-set, List·getD-append}
-use lib.Seq.{getD-set-same, getD-set-other, set-split}
+use lib.ListN.{length, getD, replicate, length-append, length-replicate, getD-replicate}
 use borrow.Author.Tests.{lt-leb}
 use Rattle.address.specs.Choice.{if_then_else_}
-use Rattle.octets.specs.Octets.{AreOctets}
-use Rattle.octets.proofs.OctetLaws.{append-octets, take-octets, drop-octets}
-use Rattle.block.specs.Block.{slotBytes, block}
+use Rattle.block.specs.Block.{block}
 use Rattle.block.specs.Blocks.{AreWords, IsCount}
-use Rattle.block.proofs.Theorem.{blocks}
-use Rattle.block.proofs.Cases.{isCount-true, isBlock-first}
+use Rattle.block.proofs.Cases.{isCount-true}
 use Rattle.journal.specs.Replay.{Replay, known, fault, among, before, isNext, taken, next, follow, bare}
 use Rattle.journal.specs.Slots.{slotCount, slotsOf, endsErased, replay, replayed, writtenSlots}
 use Rattle.journal.specs.Recovery.{recovering}
@@ -23,26 +19,24 @@ use Rattle.journal.specs.declared.Placed.{Placed}
 use Rattle.journal.specs.Writing.{refusePlacing, placing, judged, judging, withSlot, stored, BlockEffect, writing}
 use Rattle.journals.specs.Slots.{IsLength, IsErased, EndsErased, none}
 use Rattle.journals.specs.Refusals.{WriteRefusals}
-use Rattle.journals.specs.PowerCuts.{RecoversTo, Accepts, AfterWrite, storedAt, cutAfter, PowerCut, lastFirst}
+use Rattle.journals.specs.PowerCuts.{RecoversTo, AfterWrite, lastFirst}
 use Rattle.journals.specs.WrongWriters.{answering, unchecked, untornSlots, overTorn, otherBlock, idle, refusesAll, lastSlot}
 use Rattle.journals.specs.WrongWriters.{WrongWritersExcluded}
-use Rattle.journals.proofs.SlotTests.{IsSlot, isErased-other, other-erased, isBlockOf-slot, block-isBlockOf, spoilt-known, slotTaken-wrong}
-use Rattle.journals.proofs.SlotReplays.{replay-none, replay-other, holds-torn, holds-block, replay-holds}
+use Rattle.journals.proofs.SlotTests.{IsSlot, other-erased, isBlockOf-slot, block-isBlockOf}
+use Rattle.journals.proofs.SlotReplays.{holds-torn, holds-block, replay-holds}
 use Rattle.journals.proofs.SlotOutcomes.{root-replayed}
 use Rattle.journals.proofs.Lengths.{isLength-right, length-slotsOf, slotsOf-one}
-use Rattle.journals.proofs.Recovering.{known-fault, recovers-known, known-recovers}
+use Rattle.journals.proofs.Recovering.{known-fault, known-recovers}
 use Rattle.journals.proofs.Placing.{replayed-withSlot}
 use Rattle.journals.proofs.Writing.{Sized, written, writing-end, writing-accepts, writeEnd-without}
-use Rattle.journals.proofs.Erased.{erasedSlot, erasedJournal, allErased, slotsOf-erased, replicate-octets, octets-erased, length-erased}
+use Rattle.journals.proofs.Erased.{erasedSlot, erasedJournal, allErased, slotsOf-erased, replicate-octets, octets-erased}
 use Rattle.journals.proofs.Erased.{isLength-erased, replayed-erased, writtenSlots-erased, slotCount-erased}
+use Rattle.journals.proofs.Orders.{one, router, follow-router, early-refuted}
 use Rattle.journals.proofs.OneRule.{one-writer}
 
 -- ---- the blocks
 
--- the root's first router, its first host, and a router of the first router, which is not given yet
-abbrev router : List ℕ
-router = 0b10 ∷ []
-
+-- beside the root's first router, its first host, and a router of the first router, which is not given yet
 abbrev host : List ℕ
 host = 0b11 ∷ []
 
@@ -51,10 +45,6 @@ tooEarly = 0b100 ∷ []
 
 single : (a : ℕ) → IsCount (length (a ∷ []))
 single a = (omega arith, omega arith)
-
-follow-router : follow bare router ≡ known (1 ∷ 2 ∷ [])
-unfolding follow next taken isNext among before
-follow-router = refl
 
 follow-host : follow bare host ≡ known (1 ∷ 3 ∷ [])
 unfolding follow next taken isNext among before
@@ -87,8 +77,8 @@ module _ (n : ℕ) (few : suc n ≤ 128) where
   replayed-first : (xs : List ℕ) → AreWords xs → IsCount (length xs) → replayed (withSlot 0 (block xs) empty) ≡ follow bare xs
   replayed-first xs words count =
       let b = block-isBlockOf xs words count in
-      replayed-withSlot empty isLong (octets-erased (suc n)) [] erasedSlot (replicate n erasedSlot) (slotsOf-erased (suc n)) (block xs) (isBlockOf-slot b)
-      none root-replayed (holds-block b) (allErased n)
+      replayed-withSlot empty isLong (octets-erased (suc n)) [] erasedSlot (replicate n erasedSlot) (slotsOf-erased (suc n)) (block xs)
+      (isBlockOf-slot b) none root-replayed (holds-block b) (allErased n)
 
   unchecked-empty : (xs : List ℕ) → IsCount (length xs) → unchecked empty xs ≡ written 0 xs empty
   unfolding unchecked answering judged placing stored written
@@ -103,9 +93,6 @@ module _ (n : ℕ) (few : suc n ≤ 128) where
       refl
 
 -- ---- a journal of one erased slot
-
-abbrev one : List ℕ
-one = erasedJournal 1
 
 wrote-journal : (e : BlockEffect) (slot : ℕ) (xs journal : List ℕ) → e ≡ written slot xs journal → e .journal ≡ withSlot slot (block xs) journal
 unfolding written
@@ -209,22 +196,22 @@ lastSlot-refuted claim =
 
 -- ---- a journal of one torn slot
 
-abbrev torn : List ℕ
+abbrev pub torn : List ℕ
 torn = 0 ∷ replicate 511 0xFF
 
-slot-torn : IsSlot torn
+pub slot-torn : IsSlot torn
 slot-torn = record { size = ap suc (length-replicate {A = ℕ} 511 0xFF); octets = (lit< tt, replicate-octets 511) }
 
-begins-torn : IsErased torn → ⊥
+pub begins-torn : IsErased torn → ⊥
 begins-torn = other-erased torn 0 (omega arith) (λ e. omega (arith, e))
 
-ends-torn : EndsErased torn
+pub ends-torn : EndsErased torn
 ends-torn = getD-replicate 511 510 0xFF 0 (omega arith)
 
-isLength-torn : IsLength (length torn)
+pub isLength-torn : IsLength (length torn)
 isLength-torn = record { slots = 1; some = omega arith; few = omega arith; whole = slot-torn .size }
 
-replayed-torn : replayed torn ≡ bare
+pub replayed-torn : replayed torn ≡ bare
 unfolding replayed follow
 replayed-torn =
     ap (replay false bare) (slotsOf-one torn slot-torn) ∙ replay-holds (holds-torn (begins-torn, ends-torn)) (slot-torn, tt) bare
@@ -248,65 +235,11 @@ overTorn-refuted claim =
     go [] erased rest e free = let same : torn ≡ erased = cc in begins-torn (same ∙ free)
     go (x ∷ front) erased rest e free = omega (arith, ap length e, length-append front (erased ∷ rest))
 
--- ---- a power cut after the last byte alone
-
-abbrev cut : List ℕ
-cut = set one 511 0xA5
-
-getD-cut : getD cut 511 0 ≡ 0xA5
-getD-cut = getD-set-same one 511 0xA5 0 (omega (arith, length-erased 1))
-
-begins-cut : getD cut 0 0 ≡ 0xFF
-begins-cut = getD-set-other one 511 0 0xA5 0 (λ e. omega (arith, e)) ∙ getD-replicate slotBytes 0 0xFF 0 (omega arith)
-
-slot-cut : IsSlot cut
-slot-cut = record {
-  size = length-set one 511 0xA5 ∙ length-erased 1;
-  octets =
-      subst AreOctets (sym (set-split one 511 0xA5 (omega (arith, length-erased 1))))
-      (append-octets (take 511 one) (0xA5 ∷ drop slotBytes one) (take-octets 511 one (octets-erased 1))
-      (lit< tt, drop-octets slotBytes one (octets-erased 1)));
-}
-
-ends-cut : EndsErased cut → ⊥
-ends-cut e = omega (arith, e, getD-cut)
-
--- it is not erased, does not end in 0xFF and is no block
-replayed-cut : replayed cut ≡ fault 17
-unfolding replayed
-replayed-cut =
-    let some = isErased-other cut (slot-cut .size) (other-erased cut 511 (omega arith) ends-cut) in
-    let wrong = isBlock-first cut (slot-cut .size) (λ e. omega (arith, e, begins-cut)) in
-    ap (replay false bare) (slotsOf-one cut slot-cut)
-    ∙ replay-other false bare cut [] some (slotTaken-wrong false bare cut some ends-cut refl wrong ∙ spoilt-known (1 ∷ []))
-    ∙ replay-none false (fault 17)
-
-cutAfter-last : (rest : List ℕ) → cutAfter 1 (lastFirst rest) writing one router ≡ cut
-unfolding storedAt writing written withSlot
-cutAfter-last rest =
-    let same = writing-empty 0 (omega arith) router (1 ∷ 2 ∷ []) (single 2) follow-router in
-    let whole = blocks .whole router (single 2) in
-    ap (λ (x : BlockEffect). storedAt (x .answer .slot) (511 ∷ []) (x .journal) one) same
-    ∙ ap (λ (b : ℕ). set one 511 b)
-    (List·getD-append (block router) (drop slotBytes one) 0 511 (omega (arith, whole .0)) ∙ whole .2)
-
-lastFirst-refuted : (rest : List ℕ) → PowerCut (lastFirst rest) writing recovering → ⊥
-lastFirst-refuted rest claim =
-    let accepts : Accepts writing one router = record {
-      octets = octets-erased 1;
-      words = words-router;
-      accepted = wrote-refusal (writing one router) 0 router one (writing-empty 0 (omega arith) router (1 ∷ 2 ∷ []) (single 2) follow-router);
-    } in
-    let was = recovers-known one (1 ∷ []) (isLength-erased 1 (omega arith) (omega arith)) (replayed-erased 1) in
-    let is = claim .before one router (1 ∷ []) 1 accepts was (omega arith) in
-    known-fault (recovered-replayed (cutAfter 1 (lastFirst rest) writing one router) (1 ∷ []) (fault 17) is
-    (ap replayed (cutAfter-last rest) ∙ replayed-cut))
-
 -- ---- all of them
 
 pub wrong-writers-excluded : WrongWritersExcluded
 wrong-writers-excluded = record {
-  lastByteFirst = lastFirst-refuted;
+  lastByteFirst = λ rest. early-refuted (lastFirst rest) 0 (omega arith) (omega arith) refl;
   noCheck = unchecked-refuted;
   tornTaken = overTorn-refuted;
   anotherBlock = otherBlock-refuted;

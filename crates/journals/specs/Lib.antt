@@ -4,6 +4,8 @@ pub mod Replays
 pub mod Slots
 pub mod Refusals
 pub mod PowerCuts
+pub mod Orders
 pub mod RoundTrip
 pub mod OneRule
 pub mod WrongWriters
+pub mod WrongRecoveries

@@ -10,7 +10,8 @@ use Rattle.journal.specs.Writing.{writing}
 use Rattle.journals.specs.Refusals.{RecoverRule, RecoverRefusals, WriteRule, WriteRefusals}
 
 pub record OneRecovery : Type 0 where
-  pub only : (rule : RecoverRule) → RecoverRefusals rule → (journal words : List ℕ) → AreOctets journal → rule journal words ≡ recovering journal words
+  pub only : (rule : RecoverRule) → RecoverRefusals rule → (journal words : List ℕ) → AreOctets journal
+      → rule journal words ≡ recovering journal words
 
 pub record OneWriter : Type 0 where
   pub only : (rule : WriteRule) → WriteRefusals rule → (journal addresses : List ℕ) → AreOctets journal → AreWords addresses

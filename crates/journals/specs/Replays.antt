@@ -4,7 +4,7 @@ use Prim.Native.Nat.{ℕ, _^_, _<_, _≤_}
 use mathlib.Core.Path.{_≡_}
 use mathlib.Core.Bool.{true, false}
 use mathlib.Core.Logic.{_⊎_, _↔_}
-use mathlib.Core.List.{List, [], _∷_, _++_}
+use mathlib.Core.List.{List, _∷_, _++_}
 use lib.ListN.{length, replicate}
 use Rattle.address.specs.declared.Kind.{Kind}
 use Rattle.node.specs.Node.{addressIn, count, childOf}
@@ -37,13 +37,12 @@ pub record NextChildren : Type 0 where
 
 -- ---- what is replayed
 
--- what was replayed without a fault: the addresses given in some list of requests, and the nodes of its tree, which has demand 3
+-- what was replayed without a fault: the addresses given in some list of requests, and the nodes of its tree, which are not too many
 pub record IsReplayed (journal nodes : List ℕ) : Type 0 where
   pub requests : List Request
   pub addressesGiven : journal ≡ givenIn childOf requests
   pub theNodes : nodes ≡ nodesOf requests
   pub few : length nodes ≤ mostNodes
-  pub demand3 : Demand3 childOf packetHop requests
 
 -- which fault one address more is: "a 513th node, the root counted, is 14, but 17 if it is no next child"
 abbrev pub IsFault : List Request → ℕ → ℕ → Type 0
@@ -65,6 +64,9 @@ pub record Replays : Type 0 where
   -- "whose addresses each are the next child of a node already known, starting from a bare root": exactly those given in a list of requests
   -- whose tree has not too many nodes
   pub replayed : (journal nodes : List ℕ) → AreWords journal → (follow bare journal ≡ known nodes) ↔ IsReplayed journal nodes
+  -- what is replayed is a tree of demand 3: it follows, and is no part of the condition
+  pub demand3 : (journal nodes : List ℕ) → IsReplayed journal nodes
+      → (rs : List Request) × (journal ≡ givenIn childOf rs) × (nodes ≡ nodesOf rs) × Demand3 childOf packetHop rs
   -- so every list of addresses given since a bare root is replayed
   pub given : (rs : List Request) → length (nodesOf rs) ≤ mostNodes → follow bare (givenIn childOf rs) ≡ known (nodesOf rs)
   -- one address more: "otherwise 17"

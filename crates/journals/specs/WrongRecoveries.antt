@@ -1,0 +1,92 @@
+-- Wrong recoveries, which the claims must exclude: each goes by the right one with one part exchanged.
+use Prim.Native.Nat.{ℕ}
+use mathlib.Core.Path.{_≡_}
+use mathlib.Core.Bool.{Bool, false, not}
+use mathlib.Core.List.{List, [], _∷_, _++_}
+use lib.ListN.{length, drop}
+use lib.Dec.{ltb}
+use Rattle.address.specs.Choice.{if_then_else_}
+use Rattle.block.specs.Block.{isBlock, addressesIn}
+use Rattle.journal.specs.Limits.{mostNodes}
+use Rattle.journal.specs.Replay.{Replay, known, fault, follow, bare}
+use Rattle.journal.specs.Slots.{slotsOf, isErased, spoilt, slotTaken, gapAfter, replayed}
+use Rattle.journal.specs.Recovery.{isLength, RecoverEffect, refuseRecovery, restored, recovering}
+use Rattle.journals.specs.Refusals.{RecoverRule, RecoverRefusals}
+
+-- with another replay of the journal, or another end of it
+unfoldable pub replaying : (List ℕ → Replay) → (Replay → List ℕ → RecoverEffect) → RecoverRule
+replaying replay end journal words =
+    if not (isLength (length journal)) then refuseRecovery 12 words
+    else if ltb (length words) mostNodes then refuseRecovery 10 words
+    else end (replay journal) words
+
+-- ---- another end
+
+-- the words behind the nodes are left as they came
+unfoldable pub keptBehind : Replay → List ℕ → RecoverEffect
+keptBehind (known xs) words = record { answer = record { refusal = 0; nodes = length xs }; words = xs ++ drop (length xs) words }
+keptBehind (fault n) words = restored (fault n) words
+
+unfoldable pub notCleared : RecoverRule
+notCleared = replaying replayed keptBehind
+
+-- 14 and 17 leave the list as it came
+unfoldable pub keptAtFault : Replay → List ℕ → RecoverEffect
+keptAtFault (known xs) words = restored (known xs) words
+keptAtFault (fault n) words = refuseRecovery n words
+
+unfoldable pub notZeroed : RecoverRule
+notZeroed = replaying replayed keptAtFault
+
+-- ---- another replay
+
+-- slot after slot, by another rule for one
+unfoldable pub takingSlots : (Bool → Replay → List ℕ → Replay) → Bool → Replay → List (List ℕ) → Replay
+takingSlots taken gap r [] = r
+takingSlots taken gap r (slot ∷ slots) = takingSlots taken (gapAfter gap slot) (taken gap r slot) slots
+
+abbrev pub takingAll : (Bool → Replay → List ℕ → Replay) → List ℕ → Replay
+takingAll taken journal = takingSlots taken false bare (slotsOf journal)
+
+-- a torn slot is no right block, and 17
+unfoldable pub tornSpoils : Bool → Replay → List ℕ → Replay
+tornSpoils gap r slot =
+    if isErased slot then r
+    else if gap then spoilt r
+    else if isBlock slot then follow r (addressesIn slot)
+    else spoilt r
+
+unfoldable pub tornRefused : RecoverRule
+tornRefused = replaying (takingAll tornSpoils) restored
+
+-- an erased slot may stand before one that isn't
+unfoldable pub gapPassed : Bool → Replay → List ℕ → Replay
+gapPassed gap r slot = slotTaken false r slot
+
+unfoldable pub gapsAllowed : RecoverRule
+gapsAllowed = replaying (takingAll gapPassed) restored
+
+-- ---- another order
+
+-- 10 before 12
+unfoldable pub roomFirst : RecoverRule
+roomFirst journal words =
+    if ltb (length words) mostNodes then refuseRecovery 10 words
+    else if not (isLength (length journal)) then refuseRecovery 12 words
+    else restored (replayed journal) words
+
+-- that none of them is allowed
+pub record WrongRecoveriesExcluded : Type 0 where
+  -- with recovery's own parts they are recovery
+  pub ownEnd : (journal words : List ℕ) → replaying replayed restored journal words ≡ recovering journal words
+  pub ownSlots : (journal : List ℕ) → takingAll slotTaken journal ≡ replayed journal
+  -- "then zeros to the list's end"
+  pub leftBehind : RecoverRefusals notCleared → ⊥
+  -- "Recovery's 14 and 17 leave the list all zeros"
+  pub leftAtFault : RecoverRefusals notZeroed → ⊥
+  -- "A slot that isn't erased but ends in 0xFF is torn and skipped."
+  pub tornNotSkipped : RecoverRefusals tornRefused → ⊥
+  -- "Any slot that isn't erased, torn or not, standing after an erased one is 17."
+  pub gapNotSeen : RecoverRefusals gapsAllowed → ⊥
+  -- "Recovery first checks the length (12), then that at least 512 words are lent (10)"
+  pub otherOrder : RecoverRefusals roomFirst → ⊥
