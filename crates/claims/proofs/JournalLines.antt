@@ -41,11 +41,13 @@ use Rattle.journals.proofs.SlotOutcomes.{replay-known, replay-fault-exactly}
 use Rattle.journals.proofs.Lengths.{slots-slotsOf}
 use Rattle.journals.proofs.Writing.{write-refusals}
 use Rattle.journals.proofs.AfterWrites.{after-write}
-use Rattle.journals.proofs.Cuts.{length-upTo, getD-upTo, power-cut}
+use Rattle.journals.proofs.Cuts.{length-upTo, getD-upTo, power-cut, stored-whole, cut-octets}
 use Rattle.journals.proofs.RoundTrips.{round-trip}
 use Rattle.journals.proofs.Finding.{found-exactly, found-counts, node-notFound}
 use Rattle.journals.proofs.Theorem.{replays, records}
 use Rattle.journals.proofs.OneRule.{right-once, one-recovery, one-writer}
+use Rattle.journals.proofs.WrongRecoveries.{wrong-recoveries-excluded}
+use Rattle.journals.proofs.Orders.{orders}
 use Rattle.journals.proofs.WrongWriters.{wrong-writers-excluded}
 use Rattle.claims.specs.Journals.{TheCheck, TheBlock, TheSlots, JournalRefusals, RecoversTo, TheJournal, ThePowerCut}
 use Rattle.claims.specs.Journals.{TheRecord, OneJournalRule, WrongJournalRules}
@@ -292,6 +294,18 @@ the-power-cut = record {
             (take-all 512 inOrder (omega (arith, length-upTo 512)))
             (power-cut .after journal xs nodes accepts before),
       );
+  allStored = stored-whole;
+  octetsAgain = cut-octets;
+  anyOrder = orders .exactly;
+  isOrder = λ order. (λ o. (o .steps, o .every, o .once), λ h. record { steps = h .0; every = h .1; once = h .2 });
+  powerCut = λ order write recover. (
+    λ p. (p .stands, p .before, p .after),
+    λ h. record { stands = h .0; before = h .1; after = h .2 },
+  );
+  accepts = λ write journal xs. (
+    λ a. (a .octets, a .words, a .accepted),
+    λ h. record { octets = h .0; words = h .1; accepted = h .2 },
+  );
 }
 
 -- ---- a node's record
@@ -340,7 +354,26 @@ the-record = record {
 -- ---- one rule, and wrong ones
 
 pub one-journal-rule : OneJournalRule
-one-journal-rule = record { toRecover = one-recovery .only; ours = recover-refusals; toWrite = one-writer .only; oursToo = write-refusals }
+one-journal-rule = record {
+  recoverRefusals = λ rule. (
+    λ r. (r .given, r .beside, r .spared, r .zeroed, r .without),
+    λ h. record { given = h .0; beside = h .1; spared = h .2; zeroed = h .3; without = h .4 },
+  );
+  writeRefusals = λ rule. (
+    λ r. (r .given, r .beside, r .without),
+    λ h. record { given = h .0; beside = h .1; without = h .2 },
+  );
+  isFirstErased = λ slots slot. (
+    λ f. (f .before, f .erased, f .rest, f .parts, f .place, f .noneBefore, f .free),
+    λ h. record { before = h .0; erased = h .1; rest = h .2; parts = h .3; place = h .4; noneBefore = h .5; free = h .6 },
+  );
+  afterWrite = λ write recover. (λ h. h, λ h. h);
+  afterOurs = after-write;
+  toRecover = one-recovery .only;
+  ours = recover-refusals;
+  toWrite = one-writer .only;
+  oursToo = write-refusals;
+}
 
 pub wrong-journal-rules : WrongJournalRules
 wrong-journal-rules = record {
@@ -351,6 +384,11 @@ wrong-journal-rules = record {
   tornTaken = wrong-writers-excluded .tornTaken;
   allRefused = wrong-writers-excluded .allRefused;
   lastErased = wrong-writers-excluded .lastErased;
+  leftBehind = wrong-recoveries-excluded .leftBehind;
+  leftAtFault = wrong-recoveries-excluded .leftAtFault;
+  tornNotSkipped = wrong-recoveries-excluded .tornNotSkipped;
+  gapNotSeen = wrong-recoveries-excluded .gapNotSeen;
+  roomBeforeLength = wrong-recoveries-excluded .otherOrder;
   zeroStart = wrong-checks .zeroStart;
   otherPolynomial = wrong-checks .otherPolynomial;
   lowBit = wrong-checks .lowBit;

@@ -7,7 +7,7 @@ use mathlib.Core.Logic.{_⊎_, _↔_}
 use mathlib.Core.List.{List, [], _∷_, _++_, List·Memᴰ}
 use lib.Bits.{bitXor}
 use lib.ListN.{length, take, drop, getD, set, replicate}
-use Rattle.address.specs.Order.{done, _when_otherwise_, GivenExactly}
+use Rattle.address.specs.Order.{Order, done, _when_otherwise_, GivenExactly}
 use Rattle.address.specs.Address.{parent, isHost}
 use Rattle.address.specs.declared.Kind.{Kind}
 use Rattle.address.specs.declared.Kind.the-variants.{Router, Host}
@@ -29,8 +29,10 @@ use Rattle.journal.specs.Writing.{withSlot, writing}
 use Rattle.journal.specs.Record.{children, recordIn}
 use Rattle.journals.specs.Replays.{IsNextChild, IsReplayed, IsFirstFault}
 use Rattle.journals.specs.Slots.{IsLength, Holds, AllErased, Right, Fault}
-use Rattle.journals.specs.Refusals.{RecoverRule, RecoverRefusals, WriteRule, WriteRefusals, Written, NoneErased}
-use Rattle.journals.specs.PowerCuts.{AfterWrite, storedAt, inOrder, PowerCut}
+use Rattle.journals.specs.Refusals.{RecoverRule, RecoverRefusals, WriteRule, WriteRefusals, Written, NoneErased, IsFirstErased}
+use Rattle.journals.specs.PowerCuts.{Accepts, AfterWrite, storedAt, inOrder, PowerCut}
+use Rattle.journals.specs.Orders.{IsOrder}
+use Rattle.journals.specs.WrongRecoveries.{notCleared, notZeroed, tornRefused, gapsAllowed, roomFirst}
 use Rattle.journals.specs.WrongWriters.{unchecked, overTorn, otherBlock, idle, refusesAll, lastSlot}
 use Rattle.journals.specs.RoundTrip.{joined, AreBlocks, AllWritten}
 
@@ -140,29 +142,31 @@ pub record TheSlots : Type 0 where
   pub freeNone : NoneErased [] ↔ Unit {0}
   pub freeOne : (slot : List ℕ) (slots : List (List ℕ)) → NoneErased (slot ∷ slots) ↔ ((slot ≡ replicate 512 0xFF → ⊥) × NoneErased slots)
 
+-- "Recovery first checks the length (12), then that at least 512 words are lent (10), then takes slots in order, the first fault deciding"
+abbrev pub recoverOrder : List ℕ → List ℕ → Order
+recoverOrder journal words =
+    12 when (IsLength (length journal) → ⊥)
+    otherwise 10 when length words < 512
+    otherwise 14 when Fault (slotsOf journal) 14
+    otherwise 17 when Fault (slotsOf journal) 17
+    otherwise done
+
+-- "The writer refuses in this order: 12 if the journal's length is wrong or n is outside 1 to 63; 14 or 17 exactly if recovery gives it for the
+-- journal, or else for its written slots and this block after them, even a 129th; 10 if no slot is erased."
+abbrev pub writeOrder : List ℕ → List ℕ → Order
+writeOrder journal xs =
+    12 when ((IsLength (length journal) → ⊥) ⊎ (((1 ≤ length xs) × (length xs ≤ 63)) → ⊥))
+    otherwise 14 when Fault (slotsOf journal) 14
+    otherwise 17 when Fault (slotsOf journal) 17
+    otherwise 14 when ((kept : List (List ℕ)) × Written (slotsOf journal) kept × Fault (kept ++ (block xs ∷ [])) 14)
+    otherwise 17 when ((kept : List (List ℕ)) × Written (slotsOf journal) kept × Fault (kept ++ (block xs ∷ [])) 17)
+    otherwise 10 when NoneErased (slotsOf journal)
+    otherwise done
+
 -- demand 1 for recovery and the writer, for every journal of octets and every list of 64-bit words
 pub record JournalRefusals : Type 0 where
-  -- "Recovery first checks the length (12), then that at least 512 words are lent (10), then takes slots in order, the first fault deciding"
-  pub aRecovery : (journal words : List ℕ) → AreOctets journal
-      → GivenExactly (
-      12 when (IsLength (length journal) → ⊥)
-      otherwise 10 when length words < 512
-      otherwise 14 when Fault (slotsOf journal) 14
-      otherwise 17 when Fault (slotsOf journal) 17
-      otherwise done
-      ) (recovering journal words .answer .refusal)
-  -- "The writer refuses in this order: 12 if the journal's length is wrong or n is outside 1 to 63; 14 or 17 exactly if recovery gives it for the
-  -- journal, or else for its written slots and this block after them, even a 129th; 10 if no slot is erased."
-  pub aBlock : (journal xs : List ℕ) → AreOctets journal → AreWords xs
-      → GivenExactly (
-      12 when ((IsLength (length journal) → ⊥) ⊎ (((1 ≤ length xs) × (length xs ≤ 63)) → ⊥))
-      otherwise 14 when Fault (slotsOf journal) 14
-      otherwise 17 when Fault (slotsOf journal) 17
-      otherwise 14 when ((kept : List (List ℕ)) × Written (slotsOf journal) kept × Fault (kept ++ (block xs ∷ [])) 14)
-      otherwise 17 when ((kept : List (List ℕ)) × Written (slotsOf journal) kept × Fault (kept ++ (block xs ∷ [])) 17)
-      otherwise 10 when NoneErased (slotsOf journal)
-      otherwise done
-      ) (writing journal xs .answer .refusal)
+  pub aRecovery : (journal words : List ℕ) → AreOctets journal → GivenExactly (recoverOrder journal words) (recovering journal words .answer .refusal)
+  pub aBlock : (journal xs : List ℕ) → AreOctets journal → AreWords xs → GivenExactly (writeOrder journal xs) (writing journal xs .answer .refusal)
   -- "With any refusal .. every other number returned beside its own are 0 .. and no byte or word lent is changed."
   pub besideABlock : (journal xs : List ℕ) → (writing journal xs .answer .refusal ≡ 0 → ⊥)
       → (writing journal xs .answer .slot ≡ 0) × (writing journal xs .journal ≡ journal)
@@ -177,6 +181,12 @@ pub record JournalRefusals : Type 0 where
 abbrev pub RecoversTo : List ℕ → List ℕ → Type 0
 RecoversTo journal nodes = (words : List ℕ) → 512 ≤ length words
     → recovering journal words
+    ≡ record { answer = record { refusal = 0; nodes = length nodes }; words = nodes ++ replicate (length words - length nodes) 0 }
+
+-- the same by any recovery
+abbrev pub RecoversBy : RecoverRule → List ℕ → List ℕ → Type 0
+RecoversBy recover journal nodes = (words : List ℕ) → 512 ≤ length words
+    → recover journal words
     ≡ record { answer = record { refusal = 0; nodes = length nodes }; words = nodes ++ replicate (length words - length nodes) 0 }
 
 pub record TheJournal : Type 0 where
@@ -227,6 +237,26 @@ pub record ThePowerCut : Type 0 where
       → (nodes : List ℕ) × RecoversTo journal nodes
       × ((k : ℕ) → k < 512 → RecoversTo (storedAt (writing journal xs .answer .slot) (take k inOrder) (writing journal xs .journal) journal) nodes)
       × RecoversTo (storedAt (writing journal xs .answer .slot) inOrder (writing journal xs .journal) journal) (nodes ++ xs)
+  -- all places of the order written: the new journal; and after any cut there are octets again, so that every line holds of them too
+  pub allStored : (journal xs : List ℕ) → AreOctets journal → writing journal xs .answer .refusal ≡ 0
+      → storedAt (writing journal xs .answer .slot) inOrder (writing journal xs .journal) journal ≡ writing journal xs .journal
+  pub octetsAgain : (k : ℕ) (order journal xs : List ℕ) → AreOctets journal → writing journal xs .answer .refusal ≡ 0
+      → AreOctets (storedAt (writing journal xs .answer .slot) (take k order) (writing journal xs .journal) journal)
+  -- any other order of the 512 places: it outlives every cut exactly if byte 511 is the last
+  pub anyOrder : (order : List ℕ) → IsOrder order → PowerCut order writing recovering ↔ (getD order 511 0 ≡ 511)
+  pub isOrder : (order : List ℕ)
+      → IsOrder order
+      ↔ ((length order ≡ 512) × ((place : ℕ) → place < 512 → (step : ℕ) × (step < 512) × (getD order step 0 ≡ place))
+      × ((i j : ℕ) → i < 512 → j < 512 → getD order i 0 ≡ getD order j 0 → i ≡ j))
+  pub powerCut : (order : List ℕ) (write : WriteRule) (recover : RecoverRule)
+      → PowerCut order write recover
+      ↔ (((journal xs : List ℕ) → Accepts write journal xs → (nodes : List ℕ) × RecoversBy recover journal nodes)
+      × ((journal xs nodes : List ℕ) (k : ℕ) → Accepts write journal xs → RecoversBy recover journal nodes → k < 512
+      → RecoversBy recover (storedAt (write journal xs .answer .slot) (take k order) (write journal xs .journal) journal) nodes)
+      × ((journal xs nodes : List ℕ) → Accepts write journal xs → RecoversBy recover journal nodes
+      → RecoversBy recover (storedAt (write journal xs .answer .slot) (take 512 order) (write journal xs .journal) journal) (nodes ++ xs)))
+  pub accepts : (write : WriteRule) (journal xs : List ℕ)
+      → Accepts write journal xs ↔ (AreOctets journal × AreWords xs × (write journal xs .answer .refusal ≡ 0))
 
 -- a node's record from the words that recovery leaves
 pub record TheRecord : Type 0 where
@@ -250,6 +280,35 @@ pub record TheRecord : Type 0 where
 -- the refusals, with what is left beside them and without them, leave one recovery and one writer: whatever answers or leaves otherwise anywhere is
 -- excluded
 pub record OneJournalRule : Type 0 where
+  -- what the statements say of a rule, field by field
+  pub recoverRefusals : (rule : RecoverRule)
+      → RecoverRefusals rule
+      ↔ (((journal words : List ℕ) → AreOctets journal → GivenExactly (recoverOrder journal words) (rule journal words .answer .refusal))
+      × ((journal words : List ℕ) → (rule journal words .answer .refusal ≡ 0 → ⊥) → rule journal words .answer .nodes ≡ 0)
+      × ((journal words : List ℕ) → (rule journal words .answer .refusal ≡ 12) ⊎ (rule journal words .answer .refusal ≡ 10)
+      → rule journal words .words ≡ words)
+      × ((journal words : List ℕ) → (rule journal words .answer .refusal ≡ 14) ⊎ (rule journal words .answer .refusal ≡ 17)
+      → rule journal words .words ≡ replicate (length words) 0)
+      × ((journal words : List ℕ) → AreOctets journal → rule journal words .answer .refusal ≡ 0
+      → (nodes : List ℕ) × Right (slotsOf journal) nodes × (rule journal words .answer .nodes ≡ length nodes)
+      × (rule journal words .words ≡ nodes ++ replicate (length words - length nodes) 0)))
+  pub writeRefusals : (rule : WriteRule)
+      → WriteRefusals rule
+      ↔ (((journal xs : List ℕ) → AreOctets journal → AreWords xs → GivenExactly (writeOrder journal xs) (rule journal xs .answer .refusal))
+      × ((journal xs : List ℕ) → (rule journal xs .answer .refusal ≡ 0 → ⊥)
+      → (rule journal xs .answer .slot ≡ 0) × (rule journal xs .journal ≡ journal))
+      × ((journal xs : List ℕ) → AreOctets journal → rule journal xs .answer .refusal ≡ 0
+      → IsFirstErased (slotsOf journal) (rule journal xs .answer .slot)
+      × (rule journal xs .journal ≡ withSlot (rule journal xs .answer .slot) (block xs) journal)))
+  pub isFirstErased : (slots : List (List ℕ)) (slot : ℕ)
+      → IsFirstErased slots slot
+      ↔ ((before : List (List ℕ)) × (erased : List ℕ) × (rest : List (List ℕ)) × (slots ≡ before ++ erased ∷ rest) × (slot ≡ length before)
+      × NoneErased before × (erased ≡ replicate 512 0xFF))
+  pub afterWrite : (write : WriteRule) (recover : RecoverRule)
+      → AfterWrite write recover
+      ↔ ((journal xs : List ℕ) → Accepts write journal xs
+      → (nodes : List ℕ) × RecoversBy recover journal nodes × RecoversBy recover (write journal xs .journal) (nodes ++ xs))
+  pub afterOurs : AfterWrite writing recovering
   pub toRecover : (rule : RecoverRule) → RecoverRefusals rule → (journal words : List ℕ) → AreOctets journal
       → rule journal words ≡ recovering journal words
   pub ours : RecoverRefusals recovering
@@ -269,6 +328,12 @@ pub record WrongJournalRules : Type 0 where
   pub tornTaken : WriteRefusals overTorn → ⊥
   pub allRefused : WriteRefusals refusesAll → ⊥
   pub lastErased : WriteRefusals lastSlot → ⊥
+  -- a recovery that leaves the words behind the nodes, or those beside 14 and 17, as they came; to which a torn slot is 17, or a gap none; 10 before 12
+  pub leftBehind : RecoverRefusals notCleared → ⊥
+  pub leftAtFault : RecoverRefusals notZeroed → ⊥
+  pub tornNotSkipped : RecoverRefusals tornRefused → ⊥
+  pub gapNotSeen : RecoverRefusals gapsAllowed → ⊥
+  pub roomBeforeLength : RecoverRefusals roomFirst → ⊥
   -- a check that starts at 0, by another polynomial, low bit first, low half octet first, inverted at the end, without the last half octet
   pub zeroStart : startingAtZero nine ≡ 0x29B1 → ⊥
   pub otherPolynomial : ofPolynomial8005 nine ≡ 0x29B1 → ⊥
