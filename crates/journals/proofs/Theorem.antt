@@ -18,8 +18,8 @@ next-children = record { exactly = λ rs. isNext-sound (grown childOf rs) (sound
 pub replays : Replays
 replays = record {
   replayed = λ journal nodes w. (λ e. subst (Outcome journal) e (outcome-bare journal w), follow-replayed journal nodes);
-  demand3 = λ journal nodes r. (r .requests, r .addressesGiven, r .theNodes, demand-3 (r .requests));
   given = follow-grown;
+  demand3 = λ journal nodes r. (r .requests, r .addressesGiven, r .theNodes, demand-3 (r .requests));
   fault17 = λ rs. next-noChild (grown childOf rs) (sound-grown rs);
   fault14 = λ rs. next-tooMany (grown childOf rs) (sound-grown rs);
   noOther = λ rs a n fits. next-fault (grown childOf rs) (sound-grown rs) a fits n;

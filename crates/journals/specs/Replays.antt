@@ -64,11 +64,11 @@ pub record Replays : Type 0 where
   -- "whose addresses each are the next child of a node already known, starting from a bare root": exactly those given in a list of requests
   -- whose tree has not too many nodes
   pub replayed : (journal nodes : List ℕ) → AreWords journal → (follow bare journal ≡ known nodes) ↔ IsReplayed journal nodes
+  -- so every list of addresses given since a bare root is replayed
+  pub given : (rs : List Request) → length (nodesOf rs) ≤ mostNodes → follow bare (givenIn childOf rs) ≡ known (nodesOf rs)
   -- what is replayed is a tree of demand 3: it follows, and is no part of the condition
   pub demand3 : (journal nodes : List ℕ) → IsReplayed journal nodes
       → (rs : List Request) × (journal ≡ givenIn childOf rs) × (nodes ≡ nodesOf rs) × Demand3 childOf packetHop rs
-  -- so every list of addresses given since a bare root is replayed
-  pub given : (rs : List Request) → length (nodesOf rs) ≤ mostNodes → follow bare (givenIn childOf rs) ≡ known (nodesOf rs)
   -- one address more: "otherwise 17"
   pub fault17 : (rs : List Request) (a : ℕ) → a < 2 ^ 64 → (next (known (nodesOf rs)) a ≡ fault 17) ↔ (IsNextChild (grown childOf rs) a → ⊥)
   -- "a 513th node, the root counted, is 14"
