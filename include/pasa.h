@@ -1,12 +1,13 @@
-/* PASA addresses: parents and depths, children, next hops, packet headers, IPv6 forms, paths and hall plans.
+/* PASA addresses: parents and depths, children, next hops, packet headers, IPv6 forms, paths, hall plans and journals.
  *
  * The functions are those of libpasa.a, for x86-64, each proved to answer what the specification says for every input; a refusal is an
  * answer like any other. Nothing is kept between calls and nothing is allocated, so every function may be called from any thread.
  *
  * An address is any number but zero: a string of 1 to 64 bits whose first bit is 1, right-justified. With a refusal every other number
- * answered is 0, the place of refusal 13 excepted, a node answered is the one handed in, and nothing lent is changed. Without one, only what is
- * named below is written. A batch (pasa_next_hops) has no refusal of its own: the refusal of one destination is written at its index, and an
- * output that is too short is no refusal 10, it only shortens the batch.
+ * answered is 0, the place of refusal 13 excepted, a node answered is the one handed in, and nothing lent is changed, but that 14 and 17 of
+ * pasa_journal_recover leave zeros in its words. Without one, only what is named below is written. A batch (pasa_next_hops) has no refusal of
+ * its own: the refusal of one destination is written at its index, and an output that is too short is no refusal 10, it only shortens the
+ * batch.
  *
  * What a caller owes is C's own: a pointer is valid for as many elements as its length says, and what a call writes to overlaps nothing else
  * that it is handed. A null pointer with length 0 is fine. */
@@ -34,6 +35,14 @@ extern "C" {
 #define PASA_PLAN_NODES 512
 #define PASA_PLAN_BYTES 4096
 
+/* The bytes of a journal's slot, the most slots of a journal, and the most addresses of a block. */
+#define PASA_SLOT 512
+#define PASA_SLOTS 128
+#define PASA_BLOCK_MOST 63
+
+/* The most nodes that are recovered from a journal, the root counted, and the fewest words that recovery wants lent. */
+#define PASA_NODES 512
+
 /* The refusals, by the documents' numbers. */
 enum pasa_refusal {
     PASA_DONE = 0,
@@ -46,11 +55,13 @@ enum pasa_refusal {
     PASA_CHILD_NOT_GIVEN = 7, /* destination below this node, child not given */
     PASA_OTHER_PREFIX = 8,    /* IPv6 prefix differs */
     PASA_ZERO_ADDRESS = 9,    /* an address is zero */
-    PASA_NO_ROOM = 10,        /* lent output too short */
+    PASA_NO_ROOM = 10,        /* lent output too short, or no slot of a journal is erased */
     PASA_BAD_LINE = 11,       /* the path program's input isn't the one line it reads; no function here answers it */
-    PASA_WRONG_LENGTH = 12,   /* an IPv6 address isn't 16 octets, or a prefix isn't 8 */
+    PASA_WRONG_LENGTH = 12,   /* an IPv6 address isn't 16 octets, a prefix isn't 8, a journal isn't 1 to 128 slots, or a block isn't 1 to 63
+                                 addresses */
     PASA_BAD_PLAN = 13,       /* a plan's text is outside the grammar */
-    PASA_TOO_MANY = 14        /* a plan has too many bytes or nodes */
+    PASA_TOO_MANY = 14,       /* a plan has too many bytes, or a plan or a journal too many nodes */
+    PASA_BAD_JOURNAL = 17     /* a journal's slot is out of place or no right block, or an address in it is no next child */
 };
 
 /* What becomes of a packet at a node. */
@@ -118,6 +129,24 @@ struct pasa_plan {
     uint8_t refusal;
 };
 
+/* A journal writer's answer: the slot that the block was written to, counted from 0. */
+struct pasa_block {
+    size_t slot;
+    uint8_t refusal;
+};
+
+/* Recovery's answer: how many nodes the hall has, the root counted. */
+struct pasa_recovered {
+    size_t nodes;
+    uint8_t refusal;
+};
+
+/* A node's record among recovered words: found is 1; or 0, and the node all zeros. There is no refusal. */
+struct pasa_record {
+    struct pasa_node node;
+    uint8_t found;
+};
+
 /* The layout above is the archive's. Where a compiler lays a struct out otherwise, it says so here. */
 #if defined(__cplusplus) && __cplusplus >= 201103L
 #define PASA_ASSERT(fact) static_assert(fact, #fact);
@@ -163,6 +192,18 @@ PASA_ASSERT(sizeof(struct pasa_plan) == 24)
 PASA_ASSERT(offsetof(struct pasa_plan, nodes) == 0)
 PASA_ASSERT(offsetof(struct pasa_plan, place) == 8)
 PASA_ASSERT(offsetof(struct pasa_plan, refusal) == 16)
+
+PASA_ASSERT(sizeof(struct pasa_block) == 16)
+PASA_ASSERT(offsetof(struct pasa_block, slot) == 0)
+PASA_ASSERT(offsetof(struct pasa_block, refusal) == 8)
+
+PASA_ASSERT(sizeof(struct pasa_recovered) == 16)
+PASA_ASSERT(offsetof(struct pasa_recovered, nodes) == 0)
+PASA_ASSERT(offsetof(struct pasa_recovered, refusal) == 8)
+
+PASA_ASSERT(sizeof(struct pasa_record) == 24)
+PASA_ASSERT(offsetof(struct pasa_record, node) == 0)
+PASA_ASSERT(offsetof(struct pasa_record, found) == 16)
 
 #undef PASA_ASSERT
 
@@ -212,15 +253,17 @@ static inline const char *pasa_refusal_text(uint8_t refusal)
     case PASA_ZERO_ADDRESS:
         return "an address is zero";
     case PASA_NO_ROOM:
-        return "lent output too short";
+        return "lent output too short, or no slot of a journal is erased";
     case PASA_BAD_LINE:
         return "the path program's input isn't the one line it reads";
     case PASA_WRONG_LENGTH:
-        return "an IPv6 address isn't 16 octets, or a prefix isn't 8";
+        return "an IPv6 address isn't 16 octets, a prefix isn't 8, a journal isn't 1 to 128 slots, or a block isn't 1 to 63 addresses";
     case PASA_BAD_PLAN:
         return "a plan's text is outside the grammar";
     case PASA_TOO_MANY:
-        return "a plan has too many bytes or nodes";
+        return "a plan has too many bytes, or a plan or a journal too many nodes";
+    case PASA_BAD_JOURNAL:
+        return "a journal's slot is out of place or no right block, or an address in it is no next child";
     default:
         return "a refusal that this header doesn't know";
     }
@@ -281,6 +324,26 @@ struct pasa_listed pasa_path(uint64_t first, uint64_t second, uint64_t *words, s
  * for one outside the grammar, with the place, counted from 0, of the first byte with which the text stops being the start of any text of the
  * grammar, or the text's length where it ends early; 14 for more than PASA_PLAN_NODES nodes; 3, 10. */
 struct pasa_plan pasa_plan_read(const uint8_t *text, size_t text_length, uint64_t *words, size_t words_length);
+
+/* Writes a block of 1 to PASA_BLOCK_MOST addresses, in the order given, to the first wholly erased slot of a journal, its bytes in order, and
+ * leaves every other byte of the journal as it was. Each address must be the next child of a node that the journal or the block holds before it.
+ * Refusals: 12 for a journal that is not 1 to PASA_SLOTS whole slots, or another number of addresses; 14 or 17 where recovery answers that for the
+ * journal, and then where it would with this block behind the written slots, also where no slot is left for it; 10 where no slot is erased.
+ * Where the storage is not the journal lent, copy the slot that is answered, in order and byte 511 last (docs/JOURNAL.md). */
+struct pasa_block pasa_journal_write(uint8_t *journal, size_t journal_length, const uint64_t *addresses, size_t addresses_length);
+
+/* Recovers a hall from its journal: lists the root and the addresses of all blocks, in their order, at the front of the words, with zeros behind
+ * them to the end of the words. A slot that is not erased but ends in 0xFF is torn and passed over. Refusals: 12 for a journal that is not 1 to
+ * PASA_SLOTS whole slots; 10 for fewer than PASA_NODES words; then for the first fault in the order of the slots 17, or 14 where a next child
+ * would be the 513th node. With 12 and 10 the words stay as they were; with 14 and 17 all of them become zeros. */
+struct pasa_recovered pasa_journal_recover(const uint8_t *journal, size_t journal_length, uint64_t *words, size_t words_length);
+
+/* The record of a node among recovered words: its address, with the words that are its children counted by kind, at most 255 each. Found exactly
+ * if the address is not zero and stands among the words, whatever they are. The record takes the place of any other record of the node. */
+struct pasa_record pasa_journal_record(const uint64_t *words, size_t words_length, uint64_t address);
+
+/* The CRC-16 of the octets as a journal's blocks have it: polynomial 0x1021, start 0xFFFF, high bit first, nothing reversed or added at the end. */
+uint16_t pasa_crc(const uint8_t *octets, size_t octets_length);
 
 #ifdef __cplusplus
 }

@@ -54,7 +54,7 @@ impl Address {
 }
 
 /// What 1 and 0 say. Any other number stops the program: it is no answer of this archive's.
-fn yes(number: u8) -> bool {
+pub(crate) fn yes(number: u8) -> bool {
     match number {
         0 => false,
         1 => true,

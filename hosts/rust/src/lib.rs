@@ -1,4 +1,4 @@
-//! PASA addresses in Rust: children, next hops, packet headers, IPv6 forms, paths and hall plans, by the proved functions of libpasa.a.
+//! PASA addresses in Rust: children, next hops, packet headers, IPv6 forms, paths, hall plans and journals, by the proved functions of libpasa.a.
 //!
 //! ```
 //! use pasa::{Address, Hop, Node};
@@ -43,6 +43,7 @@ mod address;
 mod header;
 mod hop;
 mod ipv6;
+mod journal;
 mod node;
 mod plan;
 mod refusal;
@@ -53,6 +54,7 @@ pub use address::Address;
 pub use header::{read_header, write_header, HEADER_MOST};
 pub use hop::Hop;
 pub use ipv6::{read_ipv6, write_ipv6, IPV6_PREFIX, IPV6_WHOLE};
+pub use journal::{crc, recover_journal, recovered_record, write_block, BLOCK_MOST, NODES, SLOT, SLOTS};
 pub use node::Node;
 pub use plan::{read_plan, PlanRefusal, PLAN_BYTES, PLAN_NODES};
 pub use refusal::Refusal;

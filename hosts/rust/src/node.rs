@@ -49,8 +49,9 @@ use crate::{sys, Address, Hop, Refusal};
 /// # Ok::<(), pasa::Refusal>(())
 /// ```
 ///
-/// What is left is to say so: a record that was stored is taken up again by [`Node::restore`], and a node begins with [`Node::fresh`]. Each
-/// is called once for a node's life, or life since it was stored.
+/// What is left is to say so: a record that was stored is taken up again by [`Node::restore`], one that a journal keeps by
+/// [`recovered_record`](crate::recovered_record), and a node begins with [`Node::fresh`]. Each is called once for a node's life, or life since it
+/// was stored.
 #[derive(Debug, PartialEq, Eq, Hash)]
 pub struct Node {
     address: Address,
@@ -87,7 +88,7 @@ impl Node {
         self.hosts
     }
 
-    fn answered(node: sys::Node) -> Node {
+    pub(crate) fn answered(node: sys::Node) -> Node {
         Node { address: Address::answered(node.address), routers: node.routers, hosts: node.hosts }
     }
 

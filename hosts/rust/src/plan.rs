@@ -106,7 +106,7 @@ mod tests {
         assert_eq!(refused.to_string(), "refused 13: a plan's text is outside the grammar, at place 8");
         let refused = answer(0, 8, 14).unwrap_err();
         assert_eq!(refused.place(), None);
-        assert_eq!(refused.to_string(), "refused 14: a plan has too many bytes or nodes");
+        assert_eq!(refused.to_string(), "refused 14: a plan has too many bytes, or a plan or a journal too many nodes");
         assert_eq!(Refusal::from(refused), Refusal::TooMany);
     }
 

@@ -23,12 +23,13 @@ pub enum Refusal {
     WrongLength,
     BadPlan,
     TooMany,
+    BadJournal,
     /// A number that this crate doesn't know.
     Unknown(u8),
 }
 
-/// The refusals that the documents number, the first with 1, and their words.
-const TABLE: [(Refusal, &str); 14] = [
+/// The refusals that the documents number, and their words.
+const TABLE: [(Refusal, &str); 15] = [
     (Refusal::BadRecord, "the node record is bad"),
     (Refusal::HostAsked, "a host is asked for a child"),
     (Refusal::TooLong, "the child would be longer than 64 bits"),
@@ -38,15 +39,19 @@ const TABLE: [(Refusal, &str); 14] = [
     (Refusal::ChildNotGiven, "destination below this node, child not given"),
     (Refusal::OtherPrefix, "IPv6 prefix differs"),
     (Refusal::ZeroAddress, "an address is zero"),
-    (Refusal::NoRoom, "lent output too short"),
+    (Refusal::NoRoom, "lent output too short, or no slot of a journal is erased"),
     (Refusal::BadLine, "the path program's input isn't the one line it reads"),
-    (Refusal::WrongLength, "an IPv6 address isn't 16 octets, or a prefix isn't 8"),
+    (
+        Refusal::WrongLength,
+        "an IPv6 address isn't 16 octets, a prefix isn't 8, a journal isn't 1 to 128 slots, or a block isn't 1 to 63 addresses",
+    ),
     (Refusal::BadPlan, "a plan's text is outside the grammar"),
-    (Refusal::TooMany, "a plan has too many bytes or nodes"),
+    (Refusal::TooMany, "a plan has too many bytes, or a plan or a journal too many nodes"),
+    (Refusal::BadJournal, "a journal's slot is out of place or no right block, or an address in it is no next child"),
 ];
 
 impl Refusal {
-    /// The documents' number, 1 to 14, or the unknown one.
+    /// The documents' number, 1 to 14 or 17, or the unknown one.
     pub const fn number(self) -> u8 {
         match self {
             Refusal::BadRecord => 1,
@@ -63,14 +68,18 @@ impl Refusal {
             Refusal::WrongLength => 12,
             Refusal::BadPlan => 13,
             Refusal::TooMany => 14,
+            Refusal::BadJournal => 17,
             Refusal::Unknown(number) => number,
         }
     }
 
     /// The refusal of a number; none for 0 alone, which is "done".
     pub fn of(number: u8) -> Option<Refusal> {
-        let place = usize::from(number.checked_sub(1)?);
-        Some(TABLE.get(place).map_or(Refusal::Unknown(number), |row| row.0))
+        if number == 0 {
+            return None;
+        }
+        let row = TABLE.iter().find(|row| row.0.number() == number);
+        Some(row.map_or(Refusal::Unknown(number), |row| row.0))
     }
 
     /// The documents' words.
@@ -105,7 +114,7 @@ mod tests {
         for number in 1..=u8::MAX {
             let refusal = done(number, || 5).unwrap_err();
             assert_eq!(refusal.number(), number);
-            assert_eq!(matches!(refusal, Refusal::Unknown(_)), number > 14, "{refusal}");
+            assert_eq!(matches!(refusal, Refusal::Unknown(_)), !matches!(number, 1..=14 | 17), "{refusal}");
         }
     }
 }

@@ -74,6 +74,30 @@ pub struct Plan {
     pub refusal: u8,
 }
 
+/// A journal writer's answer.
+#[repr(C)]
+#[derive(Clone, Copy, Debug, PartialEq, Eq)]
+pub struct Block {
+    pub slot: usize,
+    pub refusal: u8,
+}
+
+/// Recovery's answer.
+#[repr(C)]
+#[derive(Clone, Copy, Debug, PartialEq, Eq)]
+pub struct Recovered {
+    pub nodes: usize,
+    pub refusal: u8,
+}
+
+/// A node's record among recovered words.
+#[repr(C)]
+#[derive(Clone, Copy, Debug, PartialEq, Eq)]
+pub struct Record {
+    pub node: Node,
+    pub found: u8,
+}
+
 /// What becomes of a packet, in [`Hop::action`].
 pub const STOPPED: u8 = 0;
 pub const DELIVERED: u8 = 1;
@@ -112,4 +136,8 @@ extern "C" {
     pub fn pasa_ipv6_read(prefix: *const u8, prefix_length: usize, ipv6: *const u8, ipv6_length: usize) -> Address;
     pub fn pasa_path(first: u64, second: u64, words: *mut u64, words_length: usize) -> Listed;
     pub fn pasa_plan_read(text: *const u8, text_length: usize, words: *mut u64, words_length: usize) -> Plan;
+    pub fn pasa_journal_write(journal: *mut u8, journal_length: usize, addresses: *const u64, addresses_length: usize) -> Block;
+    pub fn pasa_journal_recover(journal: *const u8, journal_length: usize, words: *mut u64, words_length: usize) -> Recovered;
+    pub fn pasa_journal_record(words: *const u64, words_length: usize, address: u64) -> Record;
+    pub fn pasa_crc(octets: *const u8, octets_length: usize) -> u16;
 }

@@ -23,15 +23,20 @@ fn what_an_address_answers() {
     assert_eq!(pasa::interface(), 1);
 }
 
+/// The numbers that the documents give so far.
+const NUMBERS: [u8; 15] = [1, 2, 3, 4, 5, 6, 7, 8, 9, 10, 11, 12, 13, 14, 17];
+
 #[test]
 fn refusals_have_the_documents_numbers() {
     assert_eq!(Refusal::of(0), None);
-    for number in 1..=14 {
+    for number in NUMBERS {
         let refusal = Refusal::of(number).unwrap();
         assert_eq!(refusal.number(), number);
         assert_ne!(refusal, Refusal::Unknown(number));
     }
-    assert_eq!(Refusal::of(15), Some(Refusal::Unknown(15)));
+    for number in [15, 16, 18, 255] {
+        assert_eq!(Refusal::of(number), Some(Refusal::Unknown(number)));
+    }
     let error: Box<dyn Error> = Box::new(Refusal::ChildNotGiven);
     assert_eq!(error.to_string(), "refused 7: destination below this node, child not given");
 }
@@ -40,7 +45,7 @@ fn refusals_have_the_documents_numbers() {
 #[test]
 fn refusals_have_the_documents_words() {
     let readme = include_str!("../../../README.md");
-    for number in 1..=14 {
+    for number in NUMBERS {
         let refusal = Refusal::of(number).unwrap();
         let row = format!("\n| {number} | {} |\n", refusal.text());
         assert!(readme.contains(&row), "no such row: {row}");
@@ -127,4 +132,30 @@ fn plans() {
     assert_eq!(words, [0b1, 0b10, 0b101, 0b11, 9, 9]);
     let error: Box<dyn Error> = Box::new(pasa::read_plan(b"R(H", &mut words).unwrap_err());
     assert_eq!(error.to_string(), "refused 13: a plan's text is outside the grammar, at place 3");
+}
+
+#[test]
+fn journals() {
+    let mut journal = [0xFF; 3 * pasa::SLOT];
+    assert_eq!(pasa::write_block(&mut journal, &[0b10, 0b11, 0b101]), Ok(0));
+    assert_eq!(pasa::write_block(&mut journal, &[0b11]), Err(Refusal::BadJournal));
+    assert_eq!(pasa::write_block(&mut journal, &[]), Err(Refusal::WrongLength));
+    assert_eq!(pasa::write_block(&mut journal[..700], &[0b110]), Err(Refusal::WrongLength));
+    let mut words = [9; pasa::NODES + 1];
+    assert_eq!(pasa::recover_journal(&journal, &mut words[..pasa::NODES - 1]), Err(Refusal::NoRoom));
+    assert_eq!(words, [9; pasa::NODES + 1]);
+    assert_eq!(pasa::recover_journal(&journal, &mut words), Ok(4));
+    assert_eq!((words[..4].to_vec(), words[4..].iter().all(|word| *word == 0)), (vec![0b1, 0b10, 0b11, 0b101], true));
+    assert_eq!(pasa::recovered_record(&words, address("10")), Some(Node::restore(address("10"), 0, 1)));
+    assert_eq!(pasa::recovered_record(&words, address("100")), None);
+    // torn, and then the block in the next slot
+    journal[pasa::SLOT] = 0x50;
+    assert_eq!(pasa::write_block(&mut journal, &[0b110]), Ok(2));
+    assert_eq!(pasa::recover_journal(&journal, &mut words), Ok(5));
+    assert_eq!(pasa::write_block(&mut journal, &[0b1110]), Err(Refusal::NoRoom));
+    assert_eq!(pasa::write_block(&mut journal, &[0b110]), Err(Refusal::BadJournal));
+    journal[2] ^= 1;
+    assert_eq!(pasa::recover_journal(&journal, &mut words), Err(Refusal::BadJournal));
+    assert_eq!(words, [0; pasa::NODES + 1]);
+    assert_eq!((pasa::crc(b"123456789"), pasa::crc(&[])), (0x29B1, 0xFFFF));
 }
