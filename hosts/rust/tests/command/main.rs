@@ -4,6 +4,7 @@ mod examples;
 mod header;
 mod help;
 mod ipv6;
+mod journal;
 mod next;
 mod path;
 mod plan;
@@ -82,6 +83,9 @@ const REFUSED_6: &str = "refused 6: a size above 8, or a first octet of zero whe
 const REFUSED_7: &str = "refused 7: destination below this node, child not given";
 const REFUSED_8: &str = "refused 8: IPv6 prefix differs";
 const REFUSED_9: &str = "refused 9: an address is zero";
-const REFUSED_12: &str = "refused 12: an IPv6 address isn't 16 octets, or a prefix isn't 8";
+const REFUSED_10: &str = "refused 10: lent output too short, or no slot of a journal is erased";
+const REFUSED_12: &str =
+    "refused 12: an IPv6 address isn't 16 octets, a prefix isn't 8, a journal isn't 1 to 128 slots, or a block isn't 1 to 63 addresses";
 const REFUSED_13: &str = "refused 13: a plan's text is outside the grammar";
-const REFUSED_14: &str = "refused 14: a plan has too many bytes or nodes";
+const REFUSED_14: &str = "refused 14: a plan has too many bytes, or a plan or a journal too many nodes";
+const REFUSED_17: &str = "refused 17: a journal's slot is out of place or no right block, or an address in it is no next child";

@@ -1,5 +1,5 @@
 //! The commands, and what `help` says of each.
-use crate::{draw, header, ipv6, next, path, plan, trace, Done, Failure};
+use crate::{draw, header, ipv6, journal, next, path, plan, trace, Done, Failure};
 use std::ffi::OsString;
 use std::io::Write;
 
@@ -13,8 +13,8 @@ pub struct Command {
     pub run: fn(&[OsString], &mut dyn Write) -> Done,
 }
 
-static COMMANDS: [Command; 8] =
-    [path::COMMAND, next::COMMAND, plan::COMMAND, draw::COMMAND, trace::COMMAND, header::COMMAND, ipv6::COMMAND, HELP];
+static COMMANDS: [Command; 9] =
+    [path::COMMAND, next::COMMAND, plan::COMMAND, draw::COMMAND, trace::COMMAND, journal::COMMAND, header::COMMAND, ipv6::COMMAND, HELP];
 
 const HELP: Command = Command {
     name: "help",
@@ -53,7 +53,7 @@ fn asks_for_help(word: &OsString) -> bool {
 }
 
 fn list(out: &mut dyn Write) -> Done {
-    write!(out, "hall: addresses, paths, packets, plans and trees, by proved functions\n\n")?;
+    write!(out, "hall: addresses, paths, packets, plans, journals and trees, by proved functions\n\n")?;
     for command in &COMMANDS {
         write!(out, "{}", command.list)?;
     }

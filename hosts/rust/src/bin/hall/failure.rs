@@ -7,7 +7,7 @@ use std::process::ExitCode;
 pub enum Failure {
     /// A refusal of the papers.
     Refused(Refusal),
-    /// A refusal of a text, and the lines that show where.
+    /// A refusal of a text or a journal, and the lines that show where.
     Fault { refusal: Refusal, shown: String },
     /// What was expected, and the lines that show the usage.
     Usage { expected: String, usage: &'static str },
@@ -15,6 +15,8 @@ pub enum Failure {
     BadInput { line: u64, expected: String },
     /// A file, and why it cannot be read.
     Unreadable { name: String, error: io::Error },
+    /// A file, and why it cannot be written.
+    Unwritable { name: String, error: io::Error },
     /// Standard output cannot be written.
     Output(io::Error),
 }
@@ -43,6 +45,7 @@ impl fmt::Display for Failure {
             Failure::Usage { expected, usage } => write!(f, "hall: expected {expected}\n{usage}"),
             Failure::BadInput { line, expected } => write!(f, "bad input at line {line}\nexpected {expected}"),
             Failure::Unreadable { name, error } => write!(f, "hall: cannot read {name}: {error}"),
+            Failure::Unwritable { name, error } => write!(f, "hall: cannot write {name}: {error}"),
             Failure::Output(error) => write!(f, "hall: cannot write: {error}"),
         }
     }

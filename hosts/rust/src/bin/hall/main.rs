@@ -1,5 +1,5 @@
-//! `hall`: paths, next hops, headers, IPv6 forms, hall plans and whole trees on the command line. Every address and every hop that it prints is
-//! the answer of a proved function of libpasa.a; the text around them is this program's. docs/HALL.md describes it.
+//! `hall`: paths, next hops, headers, IPv6 forms, hall plans, journals and whole trees on the command line. Every address and every hop that it
+//! prints is the answer of a proved function of libpasa.a; the text around them is this program's. docs/HALL.md describes it.
 mod commands;
 mod describe;
 mod draw;
@@ -8,6 +8,7 @@ mod header;
 mod hex;
 mod input;
 mod ipv6;
+mod journal;
 mod next;
 mod path;
 mod plan;

@@ -1,6 +1,6 @@
 //! `hall draw FILE`: a picture of a plan's hall.
 mod layout;
-mod picture;
+pub mod picture;
 
 use crate::commands::Command;
 use crate::{plan, Done};

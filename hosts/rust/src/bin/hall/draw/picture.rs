@@ -15,7 +15,7 @@ const LEVEL: &str = "#cbd5e1";
 /// Where a link turns from its parent's column to the child's row it has this radius.
 const TURN: usize = 5;
 
-/// Writes the picture of a plan's nodes, which are in the order of its text.
+/// Writes the picture of a hall's nodes, which are in the order of a plan's text: each behind its parent.
 pub fn draw(nodes: &[Address], out: &mut dyn Write) -> io::Result<()> {
     let (width, height) = layout::size(nodes);
     writeln!(out, r#"<?xml version="1.0" encoding="UTF-8"?>"#)?;

@@ -4,7 +4,7 @@
 //! Every address is `Node::router_child`'s or `Node::host_child`'s answer, every packet is a header that `write_header` wrote, and every hop
 //! is `packet_next_hop`'s answer with the record of the node that the packet has reached.
 mod line;
-mod tree;
+pub mod tree;
 mod way;
 
 use crate::commands::{wrong, Command};
@@ -60,7 +60,7 @@ const STANDARD: &str = "-";
 fn run(words: &[OsString], out: &mut dyn Write) -> Done {
     let (plan, file) = files(words)?;
     let tree = match plan {
-        Some(plan) => Tree::of_plan(&plan::read(plan)?),
+        Some(plan) => Tree::grown(&plan::read(plan)?),
         None => Tree::new(),
     };
     let (source, name) = input::open(file)?;

@@ -32,21 +32,26 @@ impl Tree {
         tree
     }
 
-    /// The tree of a plan, grown by the plan's own requests: each node of it, in the order of the text, is asked of its parent. An answer that
-    /// is not the address in the plan stops the program.
-    pub fn of_plan(nodes: &[Address]) -> Tree {
+    /// The tree of a plan or of a journal, grown by its own requests: each node of it, in its order, is asked of its parent. An answer that is
+    /// not the address there stops the program.
+    pub fn grown(nodes: &[Address]) -> Tree {
         let mut tree = Tree::new();
-        assert_eq!(nodes.first(), Some(&Address::ROOT), "a plan begins with the root");
+        assert_eq!(nodes.first(), Some(&Address::ROOT), "a hall begins with the root");
         for address in &nodes[1..] {
             let kind = if address.is_host() { Kind::Host } else { Kind::Router };
             let given = address.parent().and_then(|parent| tree.request(kind, parent));
-            assert_eq!(given, Some(Ok(*address)), "a plan's requests give its addresses");
+            assert_eq!(given, Some(Ok(*address)), "a hall's requests give its addresses");
         }
         tree
     }
 
     fn take_in(&mut self, address: Address) {
         self.nodes.insert(Position::of(address), Node::fresh(address));
+    }
+
+    /// The addresses of its nodes, each behind its parent, with all that is below it behind it.
+    pub fn addresses(&self) -> Vec<Address> {
+        self.nodes.values().map(Node::address).collect()
     }
 
     pub fn node(&self, address: Address) -> Option<&Node> {
