@@ -131,12 +131,16 @@ static void refusal_texts(void)
     same_text("refusal 7", pasa_refusal_text(7), "destination below this node, child not given");
     same_text("refusal 8", pasa_refusal_text(8), "IPv6 prefix differs");
     same_text("refusal 9", pasa_refusal_text(9), "an address is zero");
-    same_text("refusal 10", pasa_refusal_text(10), "lent output too short");
+    same_text("refusal 10", pasa_refusal_text(10), "lent output too short, or no slot of a journal is erased");
     same_text("refusal 11", pasa_refusal_text(11), "the path program's input isn't the one line it reads");
-    same_text("refusal 12", pasa_refusal_text(12), "an IPv6 address isn't 16 octets, or a prefix isn't 8");
+    same_text("refusal 12", pasa_refusal_text(12),
+              "an IPv6 address isn't 16 octets, a prefix isn't 8, a journal isn't 1 to 128 slots, or a block isn't 1 to 63 addresses");
     same_text("refusal 13", pasa_refusal_text(13), "a plan's text is outside the grammar");
-    same_text("refusal 14", pasa_refusal_text(14), "a plan has too many bytes or nodes");
+    same_text("refusal 14", pasa_refusal_text(14), "a plan has too many bytes, or a plan or a journal too many nodes");
     same_text("refusal 15", pasa_refusal_text(15), "a refusal that this header doesn't know");
+    same_text("refusal 16", pasa_refusal_text(16), "a refusal that this header doesn't know");
+    same_text("refusal 17", pasa_refusal_text(PASA_BAD_JOURNAL),
+              "a journal's slot is out of place or no right block, or an address in it is no next child");
     same_text("refusal 255", pasa_refusal_text(255), "a refusal that this header doesn't know");
 }
 
@@ -486,6 +490,617 @@ static void plans_by_null_pointers(void)
     same("no words for a plan", pasa_plan_read((const uint8_t *)"R()", 3, NULL, 0).refusal, PASA_NO_ROOM);
 }
 
+/* A journal as it is put together, with room for a slot more than it may have, and a copy of what it was. */
+enum { JOURNAL = (PASA_SLOTS + 1) * PASA_SLOT, ERASED = 0xFF, LAST = PASA_SLOT - 1 };
+static uint8_t journal[JOURNAL], journal_before[JOURNAL];
+
+static uint8_t *slot_of(size_t slot)
+{
+    return journal + slot * PASA_SLOT;
+}
+
+/* "erased to 0xFF" */
+static void erase(void)
+{
+    memset(journal, ERASED, sizeof journal);
+}
+
+/* "in bytes 509 and 510, high first, a CRC-16 of bytes 0 to 508": here bit by bit, so that no table is shared with the archive. */
+static void check_again(uint8_t *slot)
+{
+    uint32_t rest = 0xFFFF;
+    for (size_t bit = 0; bit < 509 * 8; bit++) {
+        uint32_t leaving = rest >> 15 ^ (slot[bit / 8] >> (7 - bit % 8) & 1u);
+        rest = (rest << 1 & 0xFFFF) ^ (leaving != 0 ? 0x1021 : 0);
+    }
+    slot[509] = (uint8_t)(rest >> 8);
+    slot[510] = (uint8_t)rest;
+}
+
+/* A block, by hand: also one that the writer would refuse. */
+static void put_block(size_t slot, const uint64_t *addresses, size_t count)
+{
+    uint8_t *bytes = slot_of(slot);
+    memset(bytes, 0, PASA_SLOT);
+    bytes[0] = 0x50;
+    bytes[1] = (uint8_t)count;
+    for (size_t i = 0; i < 8 * count && 2 + i < 509; i++)
+        bytes[2 + i] = (uint8_t)(addresses[i / 8] >> (56 - 8 * (i % 8)));
+    check_again(bytes);
+    bytes[LAST] = 0xA5;
+}
+
+/* Addresses as they are given: so many children of a kind of a node behind those that are in the list. */
+struct list {
+    uint64_t addresses[PASA_NODES + 8];
+    size_t count;
+};
+
+static struct list give(struct list list, uint64_t parent, size_t from, size_t count, int host)
+{
+    for (size_t i = from; i < from + count; i++)
+        list.addresses[list.count++] = ((((parent + 1) << i) - 1) << 1) + (uint64_t)host;
+    return list;
+}
+
+static struct list nobody(void)
+{
+    return (struct list){{0}, 0};
+}
+
+/* 511 addresses: 63 routers and 63 hosts of the root, 62 and 62 of node 10, 61 and 61 of node 100, 60 and 60 of node 1000, and 19 routers of
+ * node 10000. */
+static struct list most_addresses(void)
+{
+    struct list list = nobody();
+    for (unsigned depth = 0; depth < 4; depth++) {
+        list = give(list, UINT64_C(1) << depth, 0, 63 - depth, 0);
+        list = give(list, UINT64_C(1) << depth, 0, 63 - depth, 1);
+    }
+    return give(list, 16, 0, PASA_NODES - 1 - list.count, 0);
+}
+
+/* The list in blocks of so many addresses each, the last one shorter, from a slot on. The number of the slot behind them. */
+static size_t put_blocks(size_t slot, const struct list *list, size_t each)
+{
+    for (size_t at = 0; at < list->count; at += each)
+        put_block(slot++, list->addresses + at, list->count - at < each ? list->count - at : each);
+    return slot;
+}
+
+/* The words that are lent to recovery: each holds the address that stands there in the largest hall of this file, so that none is known which
+ * only the words remember. */
+static void remember(uint64_t *words, size_t count)
+{
+    struct list list = most_addresses();
+    for (size_t i = 0; i < count; i++)
+        words[i] = i == 0 ? PASA_ROOT : list.addresses[(i - 1) % list.count];
+}
+
+enum { WORDS = PASA_NODES + 88 };
+static uint64_t words[WORDS], words_before[WORDS];
+
+/* Recovers from so many bytes into so many words, and leaves the journal as it was. */
+static struct pasa_recovered recover(const char *what, size_t length, size_t room)
+{
+    char part[128];
+    remember(words, WORDS);
+    memcpy(words_before, words, sizeof words);
+    memcpy(journal_before, journal, sizeof journal);
+    struct pasa_recovered got = pasa_journal_recover(journal, length, words, room);
+    snprintf(part, sizeof part, "%s: the journal after recovery", what);
+    same(part, memcmp(journal, journal_before, sizeof journal) != 0, 0);
+    return got;
+}
+
+/* The number of words from the first on that are no zeros, and whether only zeros are behind them up to the end of those lent, and all others as
+ * they were. */
+static size_t words_left(const char *what, size_t room)
+{
+    char part[128];
+    size_t nodes = 0, behind = 0, changed = 0;
+    while (nodes < room && words[nodes] != 0)
+        nodes++;
+    for (size_t i = nodes; i < room; i++)
+        behind += words[i] != 0;
+    for (size_t i = room; i < WORDS; i++)
+        changed += words[i] != words_before[i];
+    snprintf(part, sizeof part, "%s: words behind the first zero that are none", what);
+    same(part, behind, 0);
+    snprintf(part, sizeof part, "%s: words changed that are not lent", what);
+    same(part, changed, 0);
+    return nodes;
+}
+
+/* So many slots recover to the root and these addresses, into just enough words and into more. */
+static void recovers(const char *what, size_t slots, const struct list *list)
+{
+    char part[128];
+    for (size_t room = PASA_NODES; room <= PASA_NODES + 44; room += 44) {
+        struct pasa_recovered got = recover(what, slots * PASA_SLOT, room);
+        snprintf(part, sizeof part, "%s into %zu words: the refusal", what, room);
+        same(part, got.refusal, PASA_DONE);
+        snprintf(part, sizeof part, "%s into %zu words: the nodes", what, room);
+        same(part, got.nodes, list->count + 1);
+        snprintf(part, sizeof part, "%s into %zu words: the words left", what, room);
+        same(part, words_left(what, room), list->count + 1);
+        size_t others = words[0] != PASA_ROOT;
+        for (size_t i = 0; i < list->count; i++)
+            others += words[i + 1] != list->addresses[i];
+        snprintf(part, sizeof part, "%s into %zu words: words that are others", what, room);
+        same(part, others, 0);
+    }
+}
+
+/* So many slots are refused with 14 or 17, which leaves zeros in all words lent and in no other. The writer refuses every block then, with the
+ * same number, and leaves the journal as it was. */
+static void faulty(const char *what, size_t slots, uint8_t refusal)
+{
+    char part[128];
+    for (size_t room = PASA_NODES; room <= PASA_NODES + 44; room += 44) {
+        struct pasa_recovered got = recover(what, slots * PASA_SLOT, room);
+        snprintf(part, sizeof part, "%s: recovery's refusal", what);
+        same(part, got.refusal, refusal);
+        snprintf(part, sizeof part, "%s: the nodes", what);
+        same(part, got.nodes, 0);
+        snprintf(part, sizeof part, "%s: the words left", what);
+        same(part, words_left(what, room), 0);
+    }
+    const uint64_t blocks[2][1] = {{2}, {0}};
+    for (size_t i = 0; i < 2; i++) {
+        struct pasa_block written = pasa_journal_write(journal, slots * PASA_SLOT, blocks[i], 1);
+        snprintf(part, sizeof part, "%s: the writer's refusal", what);
+        same(part, written.refusal, refusal);
+        snprintf(part, sizeof part, "%s: the writer's slot", what);
+        same(part, written.slot, 0);
+        snprintf(part, sizeof part, "%s: the journal after the writer", what);
+        same(part, memcmp(journal, journal_before, sizeof journal) != 0, 0);
+    }
+}
+
+/* A block of these addresses is written to that slot of so many: the bytes are those of a block made by hand, and no other byte is changed. */
+static void writes(const char *what, size_t slots, const uint64_t *addresses, size_t count, size_t slot)
+{
+    char part[128];
+    memcpy(journal_before, journal, sizeof journal);
+    struct pasa_block got = pasa_journal_write(journal, slots * PASA_SLOT, addresses, count);
+    snprintf(part, sizeof part, "%s: the refusal", what);
+    same(part, got.refusal, PASA_DONE);
+    snprintf(part, sizeof part, "%s: the slot", what);
+    same(part, got.slot, slot);
+    uint8_t written[JOURNAL];
+    memcpy(written, journal, sizeof journal);
+    memcpy(journal, journal_before, sizeof journal);
+    put_block(slot, addresses, count);
+    snprintf(part, sizeof part, "%s: the journal", what);
+    same(part, memcmp(written, journal, sizeof journal) != 0, 0);
+}
+
+/* A block is refused, and the journal stays as it was. */
+static void refuses(const char *what, size_t length, const uint64_t *addresses, size_t count, uint8_t refusal)
+{
+    char part[128];
+    memcpy(journal_before, journal, sizeof journal);
+    struct pasa_block got = pasa_journal_write(journal, length, addresses, count);
+    snprintf(part, sizeof part, "%s: the refusal", what);
+    same(part, got.refusal, refusal);
+    snprintf(part, sizeof part, "%s: the slot", what);
+    same(part, got.slot, 0);
+    snprintf(part, sizeof part, "%s: the journal", what);
+    same(part, memcmp(journal, journal_before, sizeof journal) != 0, 0);
+}
+
+static void checks_of_octets(void)
+{
+    uint8_t zeros[509] = {0};
+    same("the CRC of 123456789", pasa_crc((const uint8_t *)"123456789", 9), 0x29B1);
+    same("the CRC of nothing", pasa_crc(NULL, 0), 0xFFFF);
+    same("the CRC of 00", pasa_crc((const uint8_t[]){0x00}, 1), 0xE1F0);
+    same("the CRC of FF", pasa_crc((const uint8_t[]){0xFF}, 1), 0xFF00);
+    same("the CRC of FF FF", pasa_crc((const uint8_t[]){0xFF, 0xFF}, 2), 0x0000);
+    same("the CRC of 509 zeros", pasa_crc(zeros, sizeof zeros), 0x523E);
+}
+
+static void blocks_byte_by_byte(void)
+{
+    uint8_t expected[PASA_SLOT] = {0x50, 1, [9] = 0x02, [509] = 0xAB, [510] = 0x38, [511] = 0xA5};
+    erase();
+    struct pasa_block got = pasa_journal_write(journal, PASA_SLOT, (const uint64_t[]){2}, 1);
+    same("the block of 10: the refusal", got.refusal, PASA_DONE);
+    same("the block of 10: the slot", got.slot, 0);
+    same_octets("the block of 10", journal, expected, PASA_SLOT);
+    same("the byte behind the journal", journal[PASA_SLOT], ERASED);
+
+    /* the 63 hosts of the root: "zeros up to byte 508" leaves bytes 506, 507 and 508 */
+    struct list hosts = give(nobody(), PASA_ROOT, 0, 63, 1);
+    memset(expected, 0, sizeof expected);
+    expected[0] = 0x50;
+    expected[1] = 63;
+    for (size_t i = 0; i < 63; i++)
+        for (size_t octet = 0; octet < 8; octet++) {
+            size_t bits_here = i + 2 > 8 * (7 - octet) ? i + 2 - 8 * (7 - octet) : 0;
+            expected[2 + 8 * i + octet] = (uint8_t)(bits_here >= 8 ? 0xFF : (1u << bits_here) - 1);
+        }
+    expected[509] = 0x2E;
+    expected[510] = 0x3E;
+    expected[511] = 0xA5;
+    erase();
+    got = pasa_journal_write(journal, PASA_SLOT, hosts.addresses, hosts.count);
+    same("the block of 63 hosts: the refusal", got.refusal, PASA_DONE);
+    same_octets("the block of 63 hosts", journal, expected, PASA_SLOT);
+    recovers("63 hosts", 1, &hosts);
+    same("63 hosts: the last address", words[63], UINT64_MAX);
+}
+
+/* The first k bytes of a block, and erased ones behind them. */
+static void cut(size_t slot, const uint8_t *block, size_t k)
+{
+    memset(slot_of(slot), ERASED, PASA_SLOT);
+    for (size_t i = 0; i < k; i++)
+        slot_of(slot)[i] = block[i];
+}
+
+/* "If power fails after any number of bytes of one block, all other slots kept, recovery gives the state before that block if fewer than 512 bytes
+ * were written and the state after it if all were." */
+static void power_cuts(const char *what, const struct list *before, const struct list *block)
+{
+    char part[128];
+    struct list after = *before;
+    for (size_t i = 0; i < block->count; i++)
+        after.addresses[after.count++] = block->addresses[i];
+    erase();
+    size_t at = before->count > 0 ? put_blocks(0, before, PASA_BLOCK_MOST) : 0;
+    put_block(at, block->addresses, block->count);
+    uint8_t whole[PASA_SLOT];
+    memcpy(whole, slot_of(at), PASA_SLOT);
+    for (size_t k = 0; k <= PASA_SLOT; k++) {
+        const struct list *expected = k < PASA_SLOT ? before : &after;
+        cut(at, whole, k);
+        cut(at + 1, NULL, 0);
+        struct pasa_recovered got = pasa_journal_recover(journal, (at + 2) * PASA_SLOT, words, PASA_NODES);
+        snprintf(part, sizeof part, "%s, %zu bytes written: the refusal", what, k);
+        same(part, got.refusal, PASA_DONE);
+        snprintf(part, sizeof part, "%s, %zu bytes written: the nodes", what, k);
+        same(part, got.nodes, expected->count + 1);
+        snprintf(part, sizeof part, "%s, %zu bytes written: the addresses", what, k);
+        same(part, memcmp(words + 1, expected->addresses, expected->count * sizeof *words) != 0, 0);
+        /* an erased slot is taken again, a torn one is lost */
+        snprintf(part, sizeof part, "%s, %zu bytes written: the slot of the block again", what, k);
+        if (k < PASA_SLOT)
+            same(part, pasa_journal_write(journal, (at + 2) * PASA_SLOT, block->addresses, block->count).slot, k == 0 ? at : at + 1);
+    }
+}
+
+static void journals_cut_off(void)
+{
+    struct list none = nobody(), ten = give(nobody(), PASA_ROOT, 0, 1, 0), hosts = give(nobody(), PASA_ROOT, 0, 63, 1);
+    power_cuts("the first block", &none, &ten);
+    power_cuts("63 hosts behind 10", &ten, &hosts);
+    /* 4 routers of the root, 6 hosts and 7 routers of node 10, 10 hosts of the root: their CRC is 0xFFFF */
+    struct list ones = give(give(give(give(nobody(), PASA_ROOT, 0, 4, 0), 2, 0, 6, 1), 2, 0, 7, 0), PASA_ROOT, 0, 10, 1);
+    put_block(0, ones.addresses, ones.count);
+    same("a CRC of ones: byte 509", journal[509], 0xFF);
+    same("a CRC of ones: byte 510", journal[510], 0xFF);
+    power_cuts("a CRC of ones", &none, &ones);
+}
+
+static void journals_of_many_forms(void)
+{
+    struct list none = nobody(), ten = give(nobody(), PASA_ROOT, 0, 1, 0);
+    struct list two = give(ten, PASA_ROOT, 0, 1, 1);
+
+    erase();
+    recovers("an erased journal of 1 slot", 1, &none);
+    recovers("an erased journal of 128 slots", PASA_SLOTS, &none);
+    put_block(0, two.addresses, 1);
+    put_block(1, two.addresses + 1, 1);
+    recovers("two blocks", 2, &two);
+    recovers("two blocks, and an erased slot", 3, &two);
+
+    /* "A slot that isn't erased but ends in 0xFF is torn and skipped", whatever it holds */
+    erase();
+    memset(slot_of(0), 0x00, LAST);
+    slot_of(1)[17] = 0xFE;
+    put_block(2, two.addresses, 2);
+    put_block(3, two.addresses, 2);
+    slot_of(3)[LAST] = ERASED;
+    recovers("torn slots before a block and behind it", 4, &two);
+    recovers("torn slots before a block, behind it and erased ones", 6, &two);
+    recovers("torn slots alone", 2, &none);
+
+    /* "Any slot that isn't erased, torn or not, standing after an erased one is 17." */
+    erase();
+    put_block(1, ten.addresses, 1);
+    faulty("a block behind an erased slot", 2, PASA_BAD_JOURNAL);
+    slot_of(1)[LAST] = ERASED;
+    faulty("a torn slot behind an erased one", 2, PASA_BAD_JOURNAL);
+    recovers("the same journal without it", 1, &none);
+    erase();
+    put_block(0, ten.addresses, 1);
+    put_block(3, two.addresses + 1, 1);
+    faulty("a block behind erased slots", 4, PASA_BAD_JOURNAL);
+
+    /* a slot that ends in neither 0xFF nor 0xA5 */
+    for (unsigned last = 0; last < 256; last++) {
+        erase();
+        put_block(0, ten.addresses, 1);
+        slot_of(0)[LAST] = (uint8_t)last;
+        if (last == ERASED)
+            recovers("a block but for 0xFF at its end", 1, &none);
+        else if (last == 0xA5)
+            recovers("a block", 1, &ten);
+        else
+            faulty("a block with another byte at its end", 1, PASA_BAD_JOURNAL);
+    }
+    erase();
+    memset(slot_of(0), ERASED, LAST);
+    slot_of(0)[LAST] = 0xA5;
+    faulty("an erased slot but for its last byte", 1, PASA_BAD_JOURNAL);
+    memset(slot_of(0), 0x00, PASA_SLOT);
+    faulty("a slot of zeros", 1, PASA_BAD_JOURNAL);
+}
+
+/* One byte of a block changed, with its CRC made right again or not. */
+static void changed(const char *what, size_t count, size_t place, uint8_t byte, int right_again)
+{
+    struct list hosts = give(nobody(), PASA_ROOT, 0, count, 1);
+    erase();
+    put_block(0, hosts.addresses, count);
+    slot_of(0)[place] = byte;
+    if (right_again)
+        check_again(slot_of(0));
+    faulty(what, 2, PASA_BAD_JOURNAL);
+}
+
+/* A block of no addresses that is right in all else; and one of 64, whose last would be the next child if it were read from the bytes behind the
+ * 63rd: three of the block's, its CRC, 0xA5 and two of the next slot, which is erased. The CRC was searched for that. */
+static void counts_about_the_limits(void)
+{
+    const uint64_t last = UINT64_C(0x11B95FA2F0A5FFFF);
+    erase();
+    put_block(0, NULL, 0);
+    faulty("a block of no addresses", 2, PASA_BAD_JOURNAL);
+
+    struct list list = give(nobody(), PASA_ROOT, 0, 4, 1);
+    for (uint32_t left = pasa_bit_length(last) - 1; left-- > 1;) {
+        uint64_t front = last >> left, ones = (UINT64_C(1) << left) - 1;
+        list.addresses[list.count++] = front % 2 == 1 && (last & ones) != ones ? front - 1 : front;
+    }
+    same("the addresses before the 64th", list.count, PASA_BLOCK_MOST);
+    erase();
+    put_block(0, list.addresses, list.count);
+    recovers("63 addresses", 2, &list);
+    list.addresses[list.count++] = last;
+    put_block(0, list.addresses, list.count);
+    same("the CRC of the block of 64", (uint64_t)slot_of(0)[509] << 8 | slot_of(0)[510], last >> 24 & 0xFFFF);
+    faulty("a block of 64 next children", 2, PASA_BAD_JOURNAL);
+}
+
+static void blocks_that_are_none(void)
+{
+    counts_about_the_limits();
+    changed("a CRC one off", 1, 510, 0x9A, 0);
+    changed("a CRC with another high octet", 1, 509, 0x00, 0);
+    changed("a first byte of 0x51", 1, 0, 0x51, 1);
+    changed("a first byte of 0xFF", 1, 0, 0xFF, 1);
+    changed("a count of 0", 1, 1, 0, 1);
+    changed("a count of 64", 63, 1, 64, 1);
+    changed("a count of 255", 63, 1, 255, 1);
+    changed("a count of 2 for 1", 1, 1, 2, 1);
+    changed("a count of 1 for 2", 2, 1, 1, 1);
+    changed("a byte behind the addresses", 1, 10, 1, 1);
+    changed("byte 508 behind an address", 1, 508, 1, 1);
+    changed("byte 506 behind 63 addresses", 63, 506, 1, 1);
+    changed("byte 508 behind 63 addresses", 63, 508, 0x80, 1);
+    for (size_t place = 0; place < 511; place++)
+        for (unsigned bit = 0; bit < 8; bit += 7) {
+            erase();
+            put_block(0, (const uint64_t[]){2, 3}, 2);
+            slot_of(0)[place] ^= (uint8_t)(1u << bit);
+            struct pasa_recovered got = pasa_journal_recover(journal, PASA_SLOT, words, PASA_NODES);
+            same("one bit of a block changed", got.refusal, PASA_BAD_JOURNAL);
+        }
+}
+
+/* An address that is no next child, alone, behind node 10 in a slot of its own, and in the midst of a block. */
+static void no_next_child(const char *what, uint64_t address)
+{
+    erase();
+    refuses(what, PASA_SLOT, &address, 1, PASA_BAD_JOURNAL);
+    put_block(0, &address, 1);
+    faulty(what, 1, PASA_BAD_JOURNAL);
+    erase();
+    put_block(0, (const uint64_t[]){2}, 1);
+    refuses(what, 2 * PASA_SLOT, &address, 1, PASA_BAD_JOURNAL);
+    put_block(1, &address, 1);
+    faulty(what, 3, PASA_BAD_JOURNAL);
+    erase();
+    const uint64_t block[3] = {2, address, 3};
+    refuses(what, PASA_SLOT, block, 3, PASA_BAD_JOURNAL);
+    put_block(0, block, 3);
+    faulty(what, 1, PASA_BAD_JOURNAL);
+}
+
+static void addresses_that_are_no_next_children(void)
+{
+    no_next_child("zero", 0);
+    no_next_child("the root's 1", 1);
+    no_next_child("a skipped router", bits("1110"));
+    no_next_child("a skipped host", bits("111"));
+    no_next_child("a child of a router that is not there", bits("1100"));
+    no_next_child("a skipped router of 10", bits("1010"));
+    no_next_child("64 ones", UINT64_MAX);
+    no_next_child("a one and 63 zeros", UINT64_C(1) << 63);
+    /* 110 is a child of the host 11 by its bits, but a router of the root by its steps, and 10 is skipped */
+    erase();
+    refuses("a child of a host by bits", PASA_SLOT, (const uint64_t[]){3, 6}, 2, PASA_BAD_JOURNAL);
+    put_block(0, (const uint64_t[]){3, 6}, 2);
+    faulty("a child of a host by bits", 1, PASA_BAD_JOURNAL);
+    /* a repeat: in a block, and in two */
+    erase();
+    put_block(0, (const uint64_t[]){2, 2}, 2);
+    faulty("a repeat in a block", 1, PASA_BAD_JOURNAL);
+    put_block(0, (const uint64_t[]){2}, 1);
+    put_block(1, (const uint64_t[]){2}, 1);
+    faulty("a repeat in two blocks", 2, PASA_BAD_JOURNAL);
+    /* and in their order they are right: a router, then a host of it, then the next router */
+    erase();
+    writes("10, 101, 1011, 100, 110", 2, (const uint64_t[]){2, 5, 11, 4, 6}, 5, 0);
+    writes("then 11 and 111", 2, (const uint64_t[]){3, 7}, 2, 1);
+    struct list all = {{2, 5, 11, 4, 6, 3, 7}, 7};
+    recovers("them all", 2, &all);
+}
+
+/* "Recovery first checks the length (12), then that at least 512 words are lent (10)"; "The writer refuses in this order: 12 if the journal's
+ * length is wrong or n is outside 1 to 63" */
+static void journals_of_wrong_lengths(void)
+{
+    const size_t wrong[] = {0, 1, 511, 513, 1023, PASA_SLOTS * PASA_SLOT - 1, PASA_SLOTS * PASA_SLOT + 1, JOURNAL};
+    uint64_t many[64] = {0};
+    erase();
+    memset(journal, 0x00, PASA_SLOT); /* which would be 17 */
+    for (size_t i = 0; i < sizeof wrong / sizeof *wrong; i++)
+        for (size_t room = 0; room <= WORDS; room += WORDS) {
+            struct pasa_recovered got = recover("a journal of a wrong length", wrong[i], room);
+            same("a journal of a wrong length: the refusal", got.refusal, PASA_WRONG_LENGTH);
+            same("a journal of a wrong length: the nodes", got.nodes, 0);
+            same("a journal of a wrong length: the words", memcmp(words, words_before, sizeof words) != 0, 0);
+            refuses("a block for a journal of a wrong length", wrong[i], many, 1, PASA_WRONG_LENGTH);
+        }
+    for (size_t room = 0; room < PASA_NODES; room += PASA_NODES - 1) {
+        struct pasa_recovered got = recover("too few words", PASA_SLOT, room);
+        same("too few words: the refusal", got.refusal, PASA_NO_ROOM);
+        same("too few words: the nodes", got.nodes, 0);
+        same("too few words: the words", memcmp(words, words_before, sizeof words) != 0, 0);
+    }
+    refuses("a block of no addresses", PASA_SLOT, many, 0, PASA_WRONG_LENGTH);
+    refuses("a block of 64 addresses", PASA_SLOT, many, 64, PASA_WRONG_LENGTH);
+    refuses("a block of a wrong journal", PASA_SLOT, many, 63, PASA_BAD_JOURNAL);
+    same("no journal", pasa_journal_recover(NULL, 0, NULL, 0).refusal, PASA_WRONG_LENGTH);
+    same("no journal to write to", pasa_journal_write(NULL, 0, NULL, 0).refusal, PASA_WRONG_LENGTH);
+    erase();
+    same("no words", pasa_journal_recover(journal, PASA_SLOT, NULL, 0).refusal, PASA_NO_ROOM);
+    same("no addresses", pasa_journal_write(journal, PASA_SLOT, NULL, 0).refusal, PASA_WRONG_LENGTH);
+}
+
+/* "a 513th node, the root counted, is 14, but 17 if it is no next child" */
+static void halls_of_most_nodes(void)
+{
+    struct list most = most_addresses();
+    same("the addresses of the largest hall", most.count, PASA_NODES - 1);
+    const uint64_t next = most.addresses[most.count - 1] * 2 + 2, other = next * 2 + 2, known = 2;
+    erase();
+    size_t slots = put_blocks(0, &most, PASA_BLOCK_MOST);
+    same("the slots of 511 addresses", slots, 9);
+    recovers("512 nodes in 9 blocks", slots, &most);
+    recovers("512 nodes in 9 blocks of 128 slots", PASA_SLOTS, &most);
+    refuses("a 513th node", PASA_SLOTS * PASA_SLOT, &next, 1, PASA_TOO_MANY);
+    refuses("a 513th node that is no next child", PASA_SLOTS * PASA_SLOT, &other, 1, PASA_BAD_JOURNAL);
+    refuses("a 513th node that is known", PASA_SLOTS * PASA_SLOT, &known, 1, PASA_BAD_JOURNAL);
+    refuses("a 513th node, and then one that is no next child", PASA_SLOTS * PASA_SLOT, (const uint64_t[]){next, 0}, 2, PASA_TOO_MANY);
+    put_block(slots, &next, 1);
+    faulty("a 513th node written", slots + 1, PASA_TOO_MANY);
+    memset(slot_of(slots + 1), 0, PASA_SLOT);
+    faulty("a 513th node, and then a slot of zeros", slots + 2, PASA_TOO_MANY);
+    put_block(slots, &other, 1);
+    faulty("a 513th node written that is no next child", slots + 1, PASA_BAD_JOURNAL);
+    put_block(slots, &next, 1);
+    slot_of(slots)[510] ^= 1;
+    faulty("a 513th node in a wrong block", slots + 1, PASA_BAD_JOURNAL);
+}
+
+/* "14 or 17 exactly if recovery gives it for the journal, or else for its written slots and this block after them, even a 129th; 10 if no slot is
+ * erased" */
+static void journals_without_an_erased_slot(void)
+{
+    struct list most = most_addresses();
+    struct list some = nobody();
+    memcpy(some.addresses, most.addresses, PASA_SLOTS * sizeof *most.addresses);
+    some.count = PASA_SLOTS;
+    erase();
+    same("128 blocks", put_blocks(0, &some, 1), PASA_SLOTS);
+    recovers("128 blocks", PASA_SLOTS, &some);
+    refuses("a 129th block", PASA_SLOTS * PASA_SLOT, most.addresses + PASA_SLOTS, 1, PASA_NO_ROOM);
+    refuses("a 129th block of 63", PASA_SLOTS * PASA_SLOT, most.addresses + PASA_SLOTS, 63, PASA_NO_ROOM);
+    refuses("a 129th block that is no next child", PASA_SLOTS * PASA_SLOT, most.addresses + PASA_SLOTS + 1, 1, PASA_BAD_JOURNAL);
+    refuses("a 129th block of zero", PASA_SLOTS * PASA_SLOT, (const uint64_t[]){0}, 1, PASA_BAD_JOURNAL);
+    same("511 addresses in 128 blocks", put_blocks(0, &most, 4), PASA_SLOTS);
+    recovers("511 addresses in 128 blocks", PASA_SLOTS, &most);
+    const uint64_t next = most.addresses[most.count - 1] * 2 + 2;
+    refuses("a 513th node in a 129th block", PASA_SLOTS * PASA_SLOT, &next, 1, PASA_TOO_MANY);
+    erase();
+    for (size_t slot = 0; slot < PASA_SLOTS; slot++)
+        slot_of(slot)[0] = 0x50;
+    recovers("128 torn slots", PASA_SLOTS, &(struct list){{0}, 0});
+    refuses("a block behind 128 torn slots", PASA_SLOTS * PASA_SLOT, most.addresses, 1, PASA_NO_ROOM);
+    refuses("a block behind 128 torn slots that is no next child", PASA_SLOTS * PASA_SLOT, most.addresses + 1, 1, PASA_BAD_JOURNAL);
+    erase();
+    put_block(0, most.addresses, 1);
+    refuses("a block for a journal of one slot", PASA_SLOT, most.addresses + 1, 1, PASA_NO_ROOM);
+    writes("a block for its second slot", 2, most.addresses + 1, 1, 1);
+}
+
+static void record_as(const char *what, const uint64_t *among, size_t count, uint64_t address, struct pasa_node node, uint8_t found)
+{
+    char part[128];
+    struct pasa_record got = pasa_journal_record(among, count, address);
+    snprintf(part, sizeof part, "%s: whether it is found", what);
+    same(part, got.found, found);
+    snprintf(part, sizeof part, "%s: its address", what);
+    same(part, got.node.address, node.address);
+    snprintf(part, sizeof part, "%s: its routers", what);
+    same(part, got.node.routers, node.routers);
+    snprintf(part, sizeof part, "%s: its hosts", what);
+    same(part, got.node.hosts, node.hosts);
+}
+
+static void records_of_recovered_words(void)
+{
+    struct list all = {{2, 5, 11, 4, 6, 3, 7}, 7};
+    erase();
+    put_block(0, all.addresses, all.count);
+    recovers("the hall of the records", 1, &all);
+    const struct pasa_node none = {0, 0, 0};
+    record_as("the root", words, PASA_NODES, 1, record("1", 2, 2), 1);
+    record_as("node 10", words, PASA_NODES, 2, record("10", 1, 2), 1);
+    record_as("node 100", words, PASA_NODES, 4, record("100", 0, 0), 1);
+    record_as("host 11", words, PASA_NODES, 3, record("11", 0, 0), 1);
+    record_as("a node that is not there", words, PASA_NODES, bits("1110"), none, 0);
+    record_as("zero, which stands among the words", words, PASA_NODES, 0, none, 0);
+    record_as("no words", NULL, 0, 1, none, 0);
+    record_as("words without the node's children", words, 1, 1, record("1", 0, 0), 1);
+    struct pasa_child next = pasa_child_router(pasa_journal_record(words, PASA_NODES, PASA_ROOT).node);
+    same("the root's next router after recovery", next.child, bits("1110"));
+    /* words that no recovery leaves: the same child often */
+    static uint64_t often[600];
+    for (size_t i = 0; i < 600; i++)
+        often[i] = i == 0 ? 1 : i < 300 ? 2 : 3;
+    record_as("254 routers", often, 255, 1, record("1", 254, 0), 1);
+    record_as("255 routers", often, 256, 1, record("1", 255, 0), 1);
+    record_as("256 routers", often, 257, 1, record("1", 255, 0), 1);
+    record_as("299 routers and 300 hosts", often, 600, 1, record("1", 255, 255), 1);
+    record_as("a child without its parent", often + 1, 10, 1, none, 0);
+}
+
+/* The hall's own way: every child as it is given, written and then recovered. */
+static void a_hall_by_its_requests(void)
+{
+    struct list given = nobody();
+    erase();
+    for (size_t block = 0; block < 8; block++) {
+        uint64_t addresses[2];
+        recovers("the hall so far", 8, &given);
+        struct pasa_node root = pasa_journal_record(words, PASA_NODES, PASA_ROOT).node;
+        struct pasa_child router = pasa_child_router(root);
+        addresses[0] = router.child;
+        addresses[1] = pasa_child_host(pasa_fresh(router.child)).child;
+        writes("a router of the root and its host", 8, addresses, 2, block);
+        given.addresses[given.count++] = addresses[0];
+        given.addresses[given.count++] = addresses[1];
+    }
+    recovers("the whole hall", 8, &given);
+}
+
 int main(void)
 {
     interface();
@@ -501,6 +1116,17 @@ int main(void)
     plans_about_their_limits();
     plans_of_two_refusals();
     plans_by_null_pointers();
+    checks_of_octets();
+    blocks_byte_by_byte();
+    journals_cut_off();
+    journals_of_many_forms();
+    blocks_that_are_none();
+    addresses_that_are_no_next_children();
+    journals_of_wrong_lengths();
+    halls_of_most_nodes();
+    journals_without_an_erased_slot();
+    records_of_recovered_words();
+    a_hall_by_its_requests();
     printf("%u known values compared, %u different\n", compared, differences);
     return differences == 0 ? 0 : 1;
 }

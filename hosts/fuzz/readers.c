@@ -1,6 +1,6 @@
 /* A libFuzzer harness over everything of pasa.h that reads octets. Each input goes through pasa_header_read, pasa_packet_next_hop,
- * pasa_ipv6_read and pasa_plan_read, and what they answer is compared with reference.h. What is read as an address is written again, and must
- * give the octets read.
+ * pasa_ipv6_read, pasa_plan_read and pasa_journal_recover, and what they answer is compared with reference.h; so are pasa_journal_write,
+ * pasa_journal_record and pasa_crc on the same journals. What is read as an address is written again, and must give the octets read.
  *
  * The archive is not instrumented, so the octets lent stand once at the end and once at the beginning of mapped memory, with a page that
  * nobody may touch behind them or before them: one octet too far ends the run. What is lent for reading is compared with a copy afterwards,
@@ -19,6 +19,9 @@ enum { PAGE = 4096, RECORD = 10, LARGEST = 256 };
 
 /* A plan's text, and the words for its nodes: each a little more than there may be, in whole pages. */
 enum { TEXT = 2 * PAGE, WORDS = 2 * PAGE };
+
+/* A journal, a little more than there may be, and the words for its nodes: as many as are wanted, one less, and some more. */
+enum { JOURNAL = 17 * PAGE, MOST_SLOTS = JOURNAL / PASA_SLOT, FEW = PASA_NODES - 1, SOME = PASA_NODES + 40 };
 
 int LLVMFuzzerTestOneInput(const uint8_t *data, size_t size);
 
@@ -196,16 +199,224 @@ static void spelled_plan(const uint8_t *octets, size_t count)
     plan(text, length);
 }
 
-/* All octets are a plan's text, and then spell another one. Then the first ten are a node's record, if there are ten, and the packet follows:
- * once with the record as it stands, once with a shorter address and smaller counts, so that more records are good. Then the octets behind the
- * first are a prefix, of as many octets as the first says, and an IPv6 address; and at last all octets are an IPv6 address with its own first
- * eight for the prefix. */
+/* One journal into so many words: the whole answer, and all that stands about the words. They hold addresses before, which must not count as known.
+ * Then the record of some node among them. */
+static void recovery_into(const uint8_t *journal, size_t length, size_t room, unsigned which)
+{
+    static uint8_t *journal_pages, *pages;
+    if (pages == NULL) {
+        journal_pages = guarded(JOURNAL);
+        pages = guarded(WORDS);
+    }
+    static uint64_t before[WORDS / sizeof(uint64_t)], expected_words[WORDS / sizeof(uint64_t)], recovered[SOME];
+    if (before[0] == 0)
+        for (size_t i = 0; i < WORDS / sizeof(uint64_t); i++)
+            before[i] = i % 3 == 0 ? PASA_ROOT : UINT64_C(2) << i % 5;
+    struct pasa_recovered expected = reference_journal_recover(journal, length, recovered, room);
+    bool is_written = expected.refusal != PASA_WRONG_LENGTH && expected.refusal != PASA_NO_ROOM;
+    for (int at_end = 0; at_end < 2; at_end++) {
+        size_t at = at_end ? WORDS / sizeof(uint64_t) - room : 0;
+        memcpy(pages, before, WORDS);
+        memcpy(expected_words, before, WORDS);
+        if (is_written)
+            memcpy(expected_words + at, recovered, room * sizeof(uint64_t));
+        uint8_t *lent = placed(journal_pages, JOURNAL, at_end, journal, length);
+        uint64_t *words = (uint64_t *)(void *)pages + at;
+        struct pasa_recovered got = pasa_journal_recover(lent, length, words, room);
+        unchanged(lent, journal, length);
+        if (got.nodes != expected.nodes || got.refusal != expected.refusal) {
+            fprintf(stderr, "%zu nodes, refusal %u in %zu words, not %zu and %u\n", got.nodes, got.refusal, room, expected.nodes, expected.refusal);
+            fail("pasa_journal_recover differs at", journal, length);
+        }
+        if (memcmp(pages, expected_words, WORDS) != 0)
+            fail("pasa_journal_recover writes otherwise at", journal, length);
+        size_t among = which % (room + 1);
+        uint64_t address = which % 7 == 0 ? which : words[which % room];
+        struct pasa_record record = pasa_journal_record(words, among, address);
+        struct pasa_record expected_record = reference_journal_record(words, among, address);
+        if (record.found != expected_record.found || record.node.address != expected_record.node.address ||
+            record.node.routers != expected_record.node.routers || record.node.hosts != expected_record.node.hosts)
+            fail("pasa_journal_record differs at", (const uint8_t *)words, among * sizeof(uint64_t));
+        if (memcmp(pages, expected_words, WORDS) != 0)
+            fail("pasa_journal_record writes at", journal, length);
+    }
+}
+
+/* One block more: the whole answer, and the whole journal. */
+static void block_into(const uint8_t *journal, size_t length, const uint64_t *addresses, size_t count)
+{
+    static uint8_t *pages, *address_pages;
+    if (pages == NULL) {
+        pages = guarded(JOURNAL);
+        address_pages = guarded(PAGE);
+    }
+    static uint8_t written[JOURNAL], beside[JOURNAL];
+    memset(beside, 0x5A, JOURNAL);
+    memcpy(written, journal, length);
+    struct pasa_block expected = reference_journal_write(written, length, addresses, count);
+    for (int at_end = 0; at_end < 2; at_end++) {
+        memset(pages, 0x5A, JOURNAL);
+        uint8_t *lent = placed(pages, JOURNAL, at_end, journal, length);
+        uint8_t *block = placed(address_pages, PAGE, at_end, (const uint8_t *)addresses, count * sizeof(uint64_t));
+        struct pasa_block got = pasa_journal_write(lent, length, (const uint64_t *)(void *)block, count);
+        unchanged(block, (const uint8_t *)addresses, count * sizeof(uint64_t));
+        if (got.slot != expected.slot || got.refusal != expected.refusal) {
+            fprintf(stderr, "slot %zu, refusal %u, not %zu and %u\n", got.slot, got.refusal, expected.slot, expected.refusal);
+            fail("pasa_journal_write differs at", journal, length);
+        }
+        if (length > 0 && memcmp(lent, written, length) != 0)
+            fail("pasa_journal_write writes otherwise at", journal, length);
+        memset(lent, 0x5A, length);
+        if (memcmp(pages, beside, JOURNAL) != 0)
+            fail("pasa_journal_write writes beside", journal, length);
+    }
+}
+
+/* The hall from which the blocks of a spelled journal have their addresses; also beyond what a journal may hold. */
+struct spelled {
+    uint8_t journal[JOURNAL];
+    size_t slots;
+    struct known_node nodes[1024];
+    size_t count;
+};
+
+/* So many next children, of nodes that the seed chooses. */
+static size_t give(struct spelled *hall, uint64_t *addresses, size_t count, unsigned seed)
+{
+    size_t given = 0;
+    for (size_t tries = 0; given < count && tries < 4 * count && hall->count < 1024; tries++) {
+        seed = seed * 1103515245 + 12345;
+        struct known_node *node = &hall->nodes[(seed >> 16) % hall->count];
+        bool host = (seed >> 9) % 2 != 0;
+        uint64_t child = known_next(node, host);
+        if (child == 0)
+            continue;
+        node->children[host]++;
+        hall->nodes[hall->count++] = (struct known_node){child, {0, 0}};
+        addresses[given++] = child;
+    }
+    return given;
+}
+
+static void put_slot(struct spelled *hall, const uint64_t *addresses, size_t count)
+{
+    if (hall->slots < MOST_SLOTS && count > 0)
+        reference_block(addresses, count, hall->journal + PASA_SLOT * hall->slots++);
+}
+
+/* The slot spelled last with a byte changed: it stays so, or its check is made right again. */
+static void change(struct spelled *hall, size_t place, uint8_t byte, bool right_again)
+{
+    if (hall->slots == 0)
+        return;
+    uint8_t *slot = hall->journal + PASA_SLOT * (hall->slots - 1);
+    slot[place % PASA_SLOT] ^= byte;
+    if (right_again) {
+        uint16_t crc = reference_crc(slot, 509);
+        slot[509] = (uint8_t)(crc >> 8);
+        slot[510] = (uint8_t)crc;
+        slot[511] = 0xA5;
+    }
+}
+
+/* Each octet spells a slot, or more: a block of next children, a full one, many short ones, one of the octets behind it whatever they are, a torn
+ * slot, erased ones; or a change of the slot before. What is left of the last slot's octets makes the journal's length a wrong one. Then it is
+ * recovered from, and written to with next children and with some that are none. */
+static void spelled_journal(const uint8_t *octets, size_t count)
+{
+    static struct spelled hall;
+    uint64_t addresses[PASA_BLOCK_MOST + 1] = {0};
+    size_t more = 0;
+    unsigned sum = 0;
+    hall.slots = 0;
+    hall.nodes[0] = (struct known_node){PASA_ROOT, {0, 0}};
+    hall.count = 1;
+    for (size_t i = 0; i < count; i++) {
+        unsigned kind = octets[i] % 8, number = octets[i] / 8;
+        sum = sum * 31 + octets[i];
+        uint8_t next = i + 1 < count ? octets[i + 1] : 0;
+        switch (kind) {
+        case 0:
+            put_slot(&hall, addresses, give(&hall, addresses, number + 1, sum));
+            break;
+        case 1:
+            put_slot(&hall, addresses, give(&hall, addresses, PASA_BLOCK_MOST, sum));
+            break;
+        case 2:
+            for (unsigned block = 0; block <= number; block++)
+                put_slot(&hall, addresses, give(&hall, addresses, 1, sum + block));
+            break;
+        case 3:
+            for (size_t address = 0; address <= number % 4; address++) {
+                addresses[address] = 0;
+                for (size_t octet = 0; octet < 8 && i + 1 < count; octet++)
+                    addresses[address] = addresses[address] << 8 | octets[++i];
+                addresses[address] >>= number;
+            }
+            put_slot(&hall, addresses, 1 + number % 4);
+            break;
+        case 4:
+            put_slot(&hall, addresses, give(&hall, addresses, 1 + number % 4, sum));
+            if (hall.slots > 0)
+                memset(hall.journal + PASA_SLOT * (hall.slots - 1) + 2 * next, 0xFF, PASA_SLOT - 2 * next);
+            break;
+        case 5:
+            for (unsigned erased = 0; erased <= number % 16 && hall.slots < MOST_SLOTS; erased++)
+                memset(hall.journal + PASA_SLOT * hall.slots++, 0xFF, PASA_SLOT);
+            break;
+        case 6:
+            change(&hall, 16 * number + next % 16, (uint8_t)(next / 16 + 1), number % 2 == 0);
+            break;
+        default:
+            more = number % 16;
+        }
+    }
+    if (hall.slots == MOST_SLOTS)
+        more = 0;
+    size_t length = hall.slots * PASA_SLOT + more;
+    recovery_into(hall.journal, length, PASA_NODES, sum);
+    recovery_into(hall.journal, length, sum % 2 == 0 ? SOME : FEW, sum / 2);
+    size_t given = give(&hall, addresses, 1 + sum % PASA_BLOCK_MOST, sum);
+    block_into(hall.journal, length, addresses, given);
+    addresses[sum % (given + 1)] ^= 1u << sum % 8;
+    block_into(hall.journal, length, addresses, sum % 16 == 0 ? PASA_BLOCK_MOST + 1 : given);
+    if (pasa_crc(hall.journal, length % 1024) != reference_crc(hall.journal, length % 1024))
+        fail("pasa_crc differs at", hall.journal, length % 1024);
+}
+
+/* The octets as they are, as a journal, which they are too few for; as they begin a slot of zeros or of 0xFF; and their CRC. */
+static void journals(const uint8_t *octets, size_t count)
+{
+    static uint8_t slot[PASA_SLOT];
+    recovery_into(octets, count, PASA_NODES, 1);
+    for (int erased = 0; erased < 2; erased++) {
+        memset(slot, erased ? 0xFF : 0x00, sizeof slot);
+        if (count > 0)
+            memcpy(slot, octets, count);
+        recovery_into(slot, sizeof slot, PASA_NODES, 2);
+        block_into(slot, sizeof slot, (const uint64_t[]){2}, 1);
+    }
+    static uint8_t *pages;
+    if (pages == NULL)
+        pages = guarded(PAGE);
+    uint8_t *page = placed(pages, PAGE, 1, octets, count);
+    if (pasa_crc(page, count) != reference_crc(octets, count))
+        fail("pasa_crc differs at", octets, count);
+    unchanged(page, octets, count);
+    spelled_journal(octets, count);
+}
+
+/* All octets are a plan's text, and then spell another one; then they are a journal, and spell another one. Then the first ten are a node's
+ * record, if there are ten, and the packet follows: once with the record as it stands, once with a shorter address and smaller counts, so that
+ * more records are good. Then the octets behind the first are a prefix, of as many octets as the first says, and an IPv6 address; and at last all
+ * octets are an IPv6 address with its own first eight for the prefix. */
 int LLVMFuzzerTestOneInput(const uint8_t *data, size_t size)
 {
     if (size > LARGEST)
         return 0;
     plan(data, size);
     spelled_plan(data, size);
+    journals(data, size);
     if (size < RECORD)
         return 0;
     struct pasa_node node = {0, data[8], data[9]};

@@ -6,6 +6,9 @@
 
 #include "pasa.h"
 
+/* A loop whose branches tell the fuzzer nothing new: it is not told of them, which makes large journals quicker. */
+#define UNTOLD __attribute__((no_sanitize("coverage")))
+
 static struct pasa_read reference_header_read(const uint8_t *packet, size_t length)
 {
     struct pasa_read answer = {0, 0, PASA_DONE};
@@ -45,7 +48,7 @@ struct digits {
     bool bit[64];
 };
 
-static struct digits digits_of(uint64_t number)
+UNTOLD static struct digits digits_of(uint64_t number)
 {
     struct digits digits = {0, {false}};
     for (int place = 63; place >= 0; place--) {
@@ -56,7 +59,7 @@ static struct digits digits_of(uint64_t number)
     return digits;
 }
 
-static uint64_t number_of(struct digits digits, unsigned count)
+UNTOLD static uint64_t number_of(struct digits digits, unsigned count)
 {
     uint64_t number = 0;
     for (unsigned i = 0; i < count; i++)
@@ -235,6 +238,216 @@ static struct pasa_plan reference_plan_read(const uint8_t *text, size_t length, 
             words[i] = addresses[i];
         answer.nodes = nodes;
     }
+    return answer;
+}
+
+/* "a CRC-16 .. (polynomial 0x1021, start 0xFFFF, high bit first, nothing reversed or added at the end)", by a table of whole octets that is made bit
+ * by bit. */
+UNTOLD static uint16_t reference_crc(const uint8_t *octets, size_t length)
+{
+    static uint16_t table[256];
+    if (table[1] == 0)
+        for (unsigned octet = 0; octet < 256; octet++) {
+            uint32_t rest = octet << 8;
+            for (unsigned bit = 0; bit < 8; bit++)
+                rest = (rest << 1) ^ ((rest & 0x8000) != 0 ? 0x11021 : 0);
+            table[octet] = (uint16_t)rest;
+        }
+    uint16_t rest = 0xFFFF;
+    for (size_t i = 0; i < length; i++)
+        rest = (uint16_t)((rest & 0xFF) << 8 ^ table[rest >> 8 ^ octets[i]]);
+    return rest;
+}
+
+/* A node that is known: its address, and its children of each kind, routers first. */
+struct known_node {
+    uint64_t address;
+    unsigned children[2];
+};
+
+struct known_hall {
+    struct known_node nodes[512];
+    size_t count;
+};
+
+/* The parent of an address by its digits; 0 for zero and for the root. */
+UNTOLD static uint64_t known_parent(uint64_t address)
+{
+    struct digits digits = digits_of(address);
+    if (digits.count < 2)
+        return 0;
+    unsigned count = digits.count - 1;
+    while (count > 1 && digits.bit[count - 1])
+        count--;
+    return number_of(digits, count);
+}
+
+/* The address of a node's next child of a kind; 0 where it has none. */
+UNTOLD static uint64_t known_next(const struct known_node *node, bool host)
+{
+    if (node->address > 1 && node->address % 2 == 1)
+        return 0;
+    struct planned router = {digits_of(node->address), {node->children[0], node->children[1]}};
+    struct digits child = planned_child(&router, host);
+    return number_of(child, child.count);
+}
+
+UNTOLD static struct known_node *known_at(struct known_hall *hall, uint64_t address)
+{
+    for (size_t i = 0; i < hall->count; i++)
+        if (hall->nodes[i].address == address)
+            return &hall->nodes[i];
+    return NULL;
+}
+
+static void known_begin(struct known_hall *hall)
+{
+    hall->nodes[0] = (struct known_node){PASA_ROOT, {0, 0}};
+    hall->count = 1;
+}
+
+/* "each are the next child of a node already known .. otherwise 17"; "a 513th node, the root counted, is 14, but 17 if it is no next child" */
+static uint8_t known_take(struct known_hall *hall, uint64_t address)
+{
+    bool host = address % 2 == 1;
+    struct known_node *parent = known_at(hall, known_parent(address));
+    if (address < 2 || parent == NULL || known_next(parent, host) != address)
+        return PASA_BAD_JOURNAL;
+    if (hall->count == 512)
+        return PASA_TOO_MANY;
+    parent->children[host]++;
+    hall->nodes[hall->count++] = (struct known_node){address, {0, 0}};
+    return PASA_DONE;
+}
+
+UNTOLD static bool slot_is_erased(const uint8_t *slot)
+{
+    for (size_t i = 0; i < 512; i++)
+        if (slot[i] != 0xFF)
+            return false;
+    return true;
+}
+
+/* Bytes 0 to 511 of a block of so many addresses, whatever they are. */
+UNTOLD static void reference_block(const uint64_t *addresses, size_t count, uint8_t *slot)
+{
+    for (size_t i = 0; i < 509; i++)
+        slot[i] = 0;
+    slot[0] = 0x50;
+    slot[1] = (uint8_t)count;
+    for (size_t i = 0; i < 8 * count; i++)
+        slot[2 + i] = (uint8_t)(addresses[i / 8] >> 8 * (7 - i % 8));
+    uint16_t crc = reference_crc(slot, 509);
+    slot[509] = (uint8_t)(crc >> 8);
+    slot[510] = (uint8_t)(crc & 0xFF);
+    slot[511] = 0xA5;
+}
+
+/* A slot that is not erased and not torn: a right block is what would be written for its addresses. */
+static uint8_t block_taken(struct known_hall *hall, const uint8_t *slot)
+{
+    uint64_t addresses[63] = {0};
+    uint8_t written[512];
+    size_t count = slot[1];
+    if (count < 1 || count > 63)
+        return PASA_BAD_JOURNAL;
+    for (size_t i = 0; i < 8 * count; i++)
+        addresses[i / 8] = addresses[i / 8] << 8 | slot[2 + i];
+    reference_block(addresses, count, written);
+    for (size_t i = 0; i < 512; i++)
+        if (written[i] != slot[i])
+            return PASA_BAD_JOURNAL;
+    uint8_t refusal = PASA_DONE;
+    for (size_t i = 0; i < count && refusal == PASA_DONE; i++)
+        refusal = known_take(hall, addresses[i]);
+    return refusal;
+}
+
+/* "then takes slots in order, the first fault deciding, in a slot its place and form before its addresses" */
+static uint8_t slots_taken(struct known_hall *hall, const uint8_t *journal, size_t slots)
+{
+    bool erased_before = false;
+    known_begin(hall);
+    for (size_t i = 0; i < slots; i++) {
+        const uint8_t *slot = journal + 512 * i;
+        if (slot_is_erased(slot)) {
+            erased_before = true;
+            continue;
+        }
+        if (erased_before)
+            return PASA_BAD_JOURNAL;
+        uint8_t refusal = slot[511] == 0xFF ? PASA_DONE : block_taken(hall, slot);
+        if (refusal != PASA_DONE)
+            return refusal;
+    }
+    return PASA_DONE;
+}
+
+static bool is_journal_length(size_t length)
+{
+    return length >= 512 && length <= 65536 && length % 512 == 0;
+}
+
+static struct pasa_recovered reference_journal_recover(const uint8_t *journal, size_t length, uint64_t *words, size_t room)
+{
+    struct pasa_recovered answer = {0, PASA_DONE};
+    static struct known_hall hall;
+    if (!is_journal_length(length)) {
+        answer.refusal = PASA_WRONG_LENGTH;
+        return answer;
+    }
+    if (room < 512) {
+        answer.refusal = PASA_NO_ROOM;
+        return answer;
+    }
+    answer.refusal = slots_taken(&hall, journal, length / 512);
+    if (answer.refusal == PASA_DONE)
+        answer.nodes = hall.count;
+    for (size_t i = 0; i < room; i++)
+        words[i] = i < answer.nodes ? hall.nodes[i].address : 0;
+    return answer;
+}
+
+/* "The writer refuses in this order: 12 ..; 14 or 17 exactly if recovery gives it for the journal, or else for its written slots and this block after
+ * them, even a 129th; 10 if no slot is erased." */
+static struct pasa_block reference_journal_write(uint8_t *journal, size_t length, const uint64_t *addresses, size_t count)
+{
+    struct pasa_block answer = {0, PASA_DONE};
+    static struct known_hall hall;
+    if (!is_journal_length(length) || count < 1 || count > 63) {
+        answer.refusal = PASA_WRONG_LENGTH;
+        return answer;
+    }
+    answer.refusal = slots_taken(&hall, journal, length / 512);
+    for (size_t i = 0; i < count && answer.refusal == PASA_DONE; i++)
+        answer.refusal = known_take(&hall, addresses[i]);
+    if (answer.refusal != PASA_DONE)
+        return answer;
+    size_t slot = 0;
+    while (slot < length / 512 && !slot_is_erased(journal + 512 * slot))
+        slot++;
+    if (slot == length / 512) {
+        answer.refusal = PASA_NO_ROOM;
+        return answer;
+    }
+    reference_block(addresses, count, journal + 512 * slot);
+    answer.slot = slot;
+    return answer;
+}
+
+/* Found exactly if the address is not zero and stands among the words; the counts are the words whose parent it is, by kind, at most 255 each. */
+UNTOLD static struct pasa_record reference_journal_record(const uint64_t *words, size_t count, uint64_t address)
+{
+    struct pasa_record answer = {{0, 0, 0}, 0};
+    unsigned children[2] = {0, 0};
+    for (size_t i = 0; i < count; i++) {
+        if (words[i] == address && address != 0)
+            answer.found = 1;
+        if (address != 0 && known_parent(words[i]) == address && children[words[i] % 2] < 255)
+            children[words[i] % 2]++;
+    }
+    if (answer.found == 1)
+        answer.node = (struct pasa_node){address, (uint8_t)children[0], (uint8_t)children[1]};
     return answer;
 }
 

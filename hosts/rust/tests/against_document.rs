@@ -1,6 +1,7 @@
 //! Each export beside the specification on bit strings (`document`), on at least a million inputs: every small one, boundaries, damaged
 //! ones, every beginning of valid packets, and random ones by fixed seeds. A failure prints the input.
 mod document;
+mod journals;
 mod plans;
 
 use document::Kind;
@@ -113,7 +114,7 @@ impl Random {
 
 /// How often each refusal was the answer.
 #[derive(Default)]
-struct Seen([usize; 15]);
+struct Seen([usize; 18]);
 
 impl Seen {
     fn add(&mut self, refusal: u8) {
@@ -457,5 +458,9 @@ fn a_null_pointer_with_length_0() {
         assert_eq!(sys::pasa_ipv6_read(null, 0, null, 0), document::ipv6_read(&[], &[]));
         assert_eq!(sys::pasa_path(1, 1, null_mut.cast(), 0), document::path(1, 1, &mut []));
         assert_eq!(sys::pasa_plan_read(null, 0, null_mut.cast(), 0), document::plan::read(&[], &mut []));
+        assert_eq!(sys::pasa_journal_write(null_mut, 0, null.cast(), 0), document::journal::write(&mut [], &[]));
+        assert_eq!(sys::pasa_journal_recover(null, 0, null_mut.cast(), 0), document::journal::recover(&[], &mut []));
+        assert_eq!(sys::pasa_journal_record(null.cast(), 0, 1), document::journal::record(&[], 1));
+        assert_eq!(sys::pasa_crc(null, 0), document::journal::crc(&[]));
     }
 }

@@ -8,8 +8,8 @@
 //! side and times nothing: examples/bench/count has callgrind count what that takes.
 mod simple;
 
-use pasa::sys::{self, Child, Hop, Listed, Node, Plan, Read, Written};
-use pasa::{Address, PLAN_NODES};
+use pasa::sys::{self, Block, Child, Hop, Listed, Node, Plan, Read, Recovered, Written};
+use pasa::{Address, BLOCK_MOST, NODES, PLAN_NODES, SLOT, SLOTS};
 use std::collections::HashMap;
 use std::env;
 use std::hint::black_box;
@@ -20,6 +20,9 @@ const INPUTS: usize = 65_536;
 const HALL: usize = 4096;
 /// Each plan is long, so fewer are enough.
 const PLANS: usize = 256;
+/// And of journals, each of which is longer still.
+const JOURNALS: usize = 8;
+const OCTETS: usize = 509;
 const ROUNDS: usize = 150;
 
 struct Random(u64);
@@ -84,6 +87,21 @@ fn called_plan_read(text: &[u8], words: &mut [u64]) -> Plan {
     simple::plan_read(text, words)
 }
 
+#[inline(never)]
+fn called_crc(octets: &[u8]) -> u16 {
+    simple::crc(octets)
+}
+
+#[inline(never)]
+fn called_recover(journal: &[u8], words: &mut [u64]) -> Recovered {
+    simple::journal_recover(journal, words)
+}
+
+#[inline(never)]
+fn called_write(journal: &mut [u8], addresses: &[u64]) -> Block {
+    simple::journal_write(journal, addresses)
+}
+
 fn router(node: Node) -> Child {
     unsafe { sys::pasa_child_router(node) }
 }
@@ -110,6 +128,18 @@ fn path(first: u64, second: u64, words: &mut [u64]) -> Listed {
 
 fn plan_read(text: &[u8], words: &mut [u64]) -> Plan {
     unsafe { sys::pasa_plan_read(text.as_ptr(), text.len(), words.as_mut_ptr(), words.len()) }
+}
+
+fn crc(octets: &[u8]) -> u16 {
+    unsafe { sys::pasa_crc(octets.as_ptr(), octets.len()) }
+}
+
+fn recover(journal: &[u8], words: &mut [u64]) -> Recovered {
+    unsafe { sys::pasa_journal_recover(journal.as_ptr(), journal.len(), words.as_mut_ptr(), words.len()) }
+}
+
+fn write(journal: &mut [u8], addresses: &[u64]) -> Block {
+    unsafe { sys::pasa_journal_write(journal.as_mut_ptr(), journal.len(), addresses.as_ptr(), addresses.len()) }
 }
 
 /// The least time of each side for one of the inputs, in nanoseconds.
@@ -175,6 +205,89 @@ fn plan(random: &mut Random) -> Vec<u8> {
     let mut text = Vec::new();
     spell(&hall(random, PLAN_NODES), Address::ROOT.number(), &mut text);
     text
+}
+
+/// A journal of 128 slots with the addresses of a hall of 512 nodes, or the first so many of them, in blocks of so many each.
+fn journal(hall: &[Node], addresses: usize, each: usize) -> Vec<u8> {
+    let mut journal = vec![0xFF; SLOTS * SLOT];
+    let addresses: Vec<u64> = hall[1..=addresses].iter().map(|node| node.address).collect();
+    for block in addresses.chunks(each.max(1)) {
+        assert_eq!(write(&mut journal, block).refusal, 0);
+    }
+    journal
+}
+
+/// A row for recovery from journals that are made so from halls.
+fn recovery_row(name: &str, journals: &[Vec<u8>], nodes: usize) {
+    let (mut words, mut words2, mut words3) = ([0; NODES], [0; NODES], [0; NODES]);
+    for journal in journals {
+        let recovered = recover(journal, &mut words);
+        assert_eq!(recovered, Recovered { nodes, refusal: 0 });
+        assert_eq!((simple::journal_recover(journal, &mut words2), words2), (recovered, words));
+    }
+    row(
+        name,
+        times_of(
+            journals.len(),
+            [
+                each!(journals, |journal| recover(journal, black_box(&mut words))),
+                each!(journals, |journal| called_recover(journal, black_box(&mut words2))),
+                each!(journals, |journal| simple::journal_recover(journal, black_box(&mut words3))),
+            ],
+        ),
+    );
+}
+
+/// A row for one block more behind so many addresses in full blocks. What was written is erased again, which is among the time of each side.
+fn writing_row(name: &str, halls: &[Vec<Node>], before: usize, more: usize) {
+    let made =
+        |hall: &Vec<Node>| (journal(hall, before, BLOCK_MOST), hall[before + 1..=before + more].iter().map(|node| node.address).collect());
+    let mut journals: Vec<(Vec<u8>, Vec<u64>)> = halls.iter().map(made).collect();
+    for (journal, block) in &journals {
+        let (mut first, mut second) = (journal.clone(), journal.clone());
+        assert_eq!(write(&mut first, block), simple::journal_write(&mut second, block));
+        assert!(first == second && first != *journal);
+    }
+    let mut side = |write: fn(&mut [u8], &[u64]) -> Block| {
+        for (journal, block) in &mut journals {
+            let slot = black_box(write(journal, block)).slot;
+            journal[slot * SLOT..][..SLOT].fill(0xFF);
+        }
+    };
+    let [mut proved, mut called, mut inlined] = [f64::INFINITY; 3];
+    for _ in 0..ROUNDS {
+        let mut timed = |least: &mut f64, write: fn(&mut [u8], &[u64]) -> Block| {
+            let start = Instant::now();
+            side(write);
+            *least = least.min(start.elapsed().as_nanos() as f64 / halls.len() as f64);
+        };
+        timed(&mut proved, write);
+        timed(&mut called, called_write);
+        timed(&mut inlined, simple::journal_write);
+    }
+    row(name, [proved, called, inlined]);
+}
+
+/// The check of a block's bytes, recovery from small and large journals, and writing.
+fn journal_rows(random: &mut Random) {
+    let octets: Vec<Vec<u8>> = (0..PLANS).map(|_| (0..OCTETS).map(|_| random.next() as u8).collect()).collect();
+    for octets in &octets {
+        assert_eq!(crc(octets), simple::crc(octets));
+    }
+    row(
+        &format!("CRC of {OCTETS} octets"),
+        times_of(
+            PLANS,
+            [each!(octets, |octets| crc(octets)), each!(octets, |octets| called_crc(octets)), each!(octets, |octets| simple::crc(octets))],
+        ),
+    );
+    let halls: Vec<Vec<Node>> = (0..JOURNALS).map(|_| hall(random, NODES)).collect();
+    let made = |addresses, each| halls.iter().map(|hall| journal(hall, addresses, each)).collect::<Vec<_>>();
+    recovery_row("recovery, 128 erased slots", &made(0, 1), 1);
+    recovery_row("recovery, 9 blocks, 511 addresses", &made(NODES - 1, BLOCK_MOST), NODES);
+    recovery_row("recovery, 128 blocks, 511 addresses", &made(NODES - 1, 4), NODES);
+    writing_row("write, the first block, 63 addresses", &halls, 0, BLOCK_MOST);
+    writing_row("write, 7 addresses behind 8 blocks of 63", &halls, 8 * BLOCK_MOST, 7);
 }
 
 /// Destinations of packets at one node.
@@ -401,6 +514,8 @@ fn main() {
             ],
         ),
     );
+
+    journal_rows(random);
 
     // What one would deploy otherwise: a table of the next hop for each node of the hall.
     let mut map: HashMap<u64, u64> = HashMap::new();

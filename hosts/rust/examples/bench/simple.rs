@@ -1,6 +1,6 @@
 //! The functions as one would write them in Rust by hand, on 64-bit numbers: straight from the rules, with the language's own means and
 //! without tricks.
-use pasa::sys::{Child, Hop, Listed, Node, Plan, Read, Written, DELIVERED, STOPPED, TO_CHILD, TO_PARENT};
+use pasa::sys::{Block, Child, Hop, Listed, Node, Plan, Read, Recovered, Written, DELIVERED, STOPPED, TO_CHILD, TO_PARENT};
 
 fn bit_length(address: u64) -> u32 {
     64 - address.leading_zeros()
@@ -262,4 +262,131 @@ pub fn plan_read(text: &[u8], words: &mut [u64]) -> Plan {
     };
     front.copy_from_slice(&addresses[..nodes]);
     Plan { nodes, place: 0, refusal: 0 }
+}
+
+/// "the check uses a table of sixteen entries, one for each half octet"
+const CRC_TABLE: [u16; 16] =
+    [0x0000, 0x1021, 0x2042, 0x3063, 0x4084, 0x50A5, 0x60C6, 0x70E7, 0x8108, 0x9129, 0xA14A, 0xB16B, 0xC18C, 0xD1AD, 0xE1CE, 0xF1EF];
+
+#[inline]
+pub fn crc(octets: &[u8]) -> u16 {
+    let half = |crc: u16, half: u8| crc << 4 ^ CRC_TABLE[usize::from(crc >> 12 ^ u16::from(half))];
+    octets.iter().fold(0xFFFF, |crc, octet| half(half(crc, octet >> 4), octet & 15))
+}
+
+fn is_erased(slot: &[u8]) -> bool {
+    slot.iter().all(|byte| *byte == 0xFF)
+}
+
+fn is_block(slot: &[u8]) -> bool {
+    let count = usize::from(slot[1]);
+    slot[511] == 0xA5
+        && slot[0] == 0x50
+        && (1..=63).contains(&count)
+        && slot[2 + 8 * count..509].iter().all(|byte| *byte == 0)
+        && slot[509..511] == crc(&slot[..509]).to_be_bytes()
+}
+
+/// The child before this one, of the same node and kind, or that node.
+fn before(address: u64) -> u64 {
+    let half = address / 2;
+    if address % 2 == 1 || half == 1 || half % 2 == 0 {
+        half
+    } else {
+        half - 1
+    }
+}
+
+/// One address more behind the nodes known, or the refusal.
+fn take(address: u64, nodes: usize, words: &mut [u64]) -> Result<usize, u8> {
+    let known = &words[..nodes];
+    if !known.contains(&before(address)) || known.contains(&address) {
+        return Err(17);
+    }
+    if nodes == 512 {
+        return Err(14);
+    }
+    words[nodes] = address;
+    Ok(nodes + 1)
+}
+
+/// The nodes known and the slots written, or the first fault.
+fn replay(journal: &[u8], words: &mut [u64]) -> Result<(usize, usize), u8> {
+    words[0] = 1;
+    let mut nodes = 1;
+    let mut written = 0;
+    for (place, slot) in journal.chunks_exact(512).enumerate() {
+        if is_erased(slot) {
+            continue;
+        }
+        if written < place {
+            return Err(17);
+        }
+        written += 1;
+        if slot[511] == 0xFF {
+            continue;
+        }
+        if !is_block(slot) {
+            return Err(17);
+        }
+        for octets in slot[2..2 + 8 * usize::from(slot[1])].chunks_exact(8) {
+            nodes = take(u64::from_be_bytes(octets.try_into().unwrap()), nodes, words)?;
+        }
+    }
+    Ok((nodes, written))
+}
+
+fn is_journal(journal: &[u8]) -> bool {
+    journal.len() % 512 == 0 && (1..=128).contains(&(journal.len() / 512))
+}
+
+#[inline]
+pub fn journal_recover(journal: &[u8], words: &mut [u64]) -> Recovered {
+    let refused = |refusal| Recovered { nodes: 0, refusal };
+    if !is_journal(journal) {
+        return refused(12);
+    }
+    if words.len() < 512 {
+        return refused(10);
+    }
+    match replay(journal, words) {
+        Err(fault) => {
+            words.fill(0);
+            refused(fault)
+        }
+        Ok((nodes, _)) => {
+            words[nodes..].fill(0);
+            Recovered { nodes, refusal: 0 }
+        }
+    }
+}
+
+#[inline]
+pub fn journal_write(journal: &mut [u8], addresses: &[u64]) -> Block {
+    let refused = |refusal| Block { slot: 0, refusal };
+    if !is_journal(journal) || !(1..=63).contains(&addresses.len()) {
+        return refused(12);
+    }
+    let mut words = [0; 512];
+    let followed = replay(journal, &mut words).and_then(|(mut nodes, written)| {
+        for address in addresses {
+            nodes = take(*address, nodes, &mut words)?;
+        }
+        Ok(written)
+    });
+    let slot = match followed {
+        Err(fault) => return refused(fault),
+        Ok(written) => written,
+    };
+    let Some(out) = journal.chunks_exact_mut(512).nth(slot) else {
+        return refused(10);
+    };
+    out.fill(0);
+    (out[0], out[1], out[511]) = (0x50, addresses.len() as u8, 0xA5);
+    for (octets, address) in out[2..509].chunks_exact_mut(8).zip(addresses) {
+        octets.copy_from_slice(&address.to_be_bytes());
+    }
+    let crc = crc(&out[..509]).to_be_bytes();
+    out[509..511].copy_from_slice(&crc);
+    Block { slot, refusal: 0 }
 }
