@@ -74,7 +74,8 @@ enum pasa_action {
 
 /* A node's record: its address with the router children and the host children given so far.
  *
- * A record is made by pasa_fresh alone, also one that was stored: make it afresh and set its counts, and every other field starts right.
+ * A caller makes a record by pasa_fresh alone, also one that was stored: make it afresh and set its counts, and every other field starts
+ * right; pasa_journal_record answers one made so.
  * There is one record of a node, and the one that a request answers takes its place: an old record, or a copy, that is asked again gives the
  * same address a second time, to another node. */
 struct pasa_node {
@@ -335,7 +336,7 @@ struct pasa_block pasa_journal_write(uint8_t *journal, size_t journal_length, co
 /* Recovers a hall from its journal: lists the root and the addresses of all blocks, in their order, at the front of the words, with zeros behind
  * them to the end of the words. A slot that is not erased but ends in 0xFF is torn and passed over. Refusals: 12 for a journal that is not 1 to
  * PASA_SLOTS whole slots; 10 for fewer than PASA_NODES words; then for the first fault in the order of the slots 17, or 14 where a next child
- * would be the 513th node. With 12 and 10 the words stay as they were; with 14 and 17 all of them become zeros. */
+ * would be one node more than PASA_NODES. With 12 and 10 the words stay as they were; with 14 and 17 all of them become zeros. */
 struct pasa_recovered pasa_journal_recover(const uint8_t *journal, size_t journal_length, uint64_t *words, size_t words_length);
 
 /* The record of a node among recovered words: its address, with the words that are its children counted by kind, at most 255 each. Found exactly

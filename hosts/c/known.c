@@ -764,10 +764,19 @@ static void power_cuts(const char *what, const struct list *before, const struct
         same(part, got.nodes, expected->count + 1);
         snprintf(part, sizeof part, "%s, %zu bytes written: the addresses", what, k);
         same(part, memcmp(words + 1, expected->addresses, expected->count * sizeof *words) != 0, 0);
+        uint64_t behind = 0;
+        for (size_t i = expected->count + 1; i < PASA_NODES; i++)
+            behind |= words[i];
+        snprintf(part, sizeof part, "%s, %zu bytes written: the words behind", what, k);
+        same(part, behind, 0);
+        if (k == PASA_SLOT)
+            break;
         /* an erased slot is taken again, a torn one is lost */
+        struct pasa_block again = pasa_journal_write(journal, (at + 2) * PASA_SLOT, block->addresses, block->count);
+        snprintf(part, sizeof part, "%s, %zu bytes written: the refusal of the block again", what, k);
+        same(part, again.refusal, PASA_DONE);
         snprintf(part, sizeof part, "%s, %zu bytes written: the slot of the block again", what, k);
-        if (k < PASA_SLOT)
-            same(part, pasa_journal_write(journal, (at + 2) * PASA_SLOT, block->addresses, block->count).slot, k == 0 ? at : at + 1);
+        same(part, again.slot, k == 0 ? at : at + 1);
     }
 }
 
@@ -879,7 +888,7 @@ static void counts_about_the_limits(void)
 static void blocks_that_are_none(void)
 {
     counts_about_the_limits();
-    changed("a CRC one off", 1, 510, 0x9A, 0);
+    changed("a CRC one off", 1, 510, 0x1C, 0);
     changed("a CRC with another high octet", 1, 509, 0x00, 0);
     changed("a first byte of 0x51", 1, 0, 0x51, 1);
     changed("a first byte of 0xFF", 1, 0, 0xFF, 1);

@@ -319,9 +319,9 @@ static void change(struct spelled *hall, size_t place, uint8_t byte, bool right_
     }
 }
 
-/* Each octet spells a slot, or more: a block of next children, a full one, many short ones, one of the octets behind it whatever they are, a torn
- * slot, erased ones; or a change of the slot before. What is left of the last slot's octets makes the journal's length a wrong one. Then it is
- * recovered from, and written to with next children and with some that are none. */
+/* Each octet spells a slot, or more: a block of next children, a full one, many short ones, one of the octets behind it whatever they are, one of
+ * no addresses, a torn slot, erased ones; or a change of the slot before, or some bytes more, which make the journal's length a wrong one. Then it
+ * is recovered from, and written to with next children and with some that are none. */
 static void spelled_journal(const uint8_t *octets, size_t count)
 {
     static struct spelled hall;
@@ -365,10 +365,13 @@ static void spelled_journal(const uint8_t *octets, size_t count)
                 memset(hall.journal + PASA_SLOT * hall.slots++, 0xFF, PASA_SLOT);
             break;
         case 6:
-            change(&hall, 16 * number + next % 16, (uint8_t)(next / 16 + 1), number % 2 == 0);
+            change(&hall, 16 * number + next % 16, (uint8_t)(next / 16 + 1), next / 16 % 2 == 0);
             break;
         default:
-            more = number % 16;
+            if (number < 16)
+                more = number;
+            else if (hall.slots < MOST_SLOTS)
+                reference_block(NULL, 0, hall.journal + PASA_SLOT * hall.slots++);
         }
     }
     if (hall.slots == MOST_SLOTS)
@@ -384,9 +387,24 @@ static void spelled_journal(const uint8_t *octets, size_t count)
         fail("pasa_crc differs at", hall.journal, length % 1024);
 }
 
-/* The octets as they are, as a journal, which they are too few for; as they begin a slot of zeros or of 0xFF; and their CRC. */
+/* The record of a node among many words that no recovery leaves: each octet is one, again and again. */
+static void record_among(const uint8_t *octets, size_t count)
+{
+    uint64_t words[600];
+    for (size_t i = 0; i < 600 && count > 0; i++)
+        words[i] = octets[i % count];
+    size_t among = count > 0 ? 600 : 0;
+    uint64_t address = count > 0 ? octets[0] : 1;
+    struct pasa_record got = pasa_journal_record(words, among, address), expected = reference_journal_record(words, among, address);
+    if (got.found != expected.found || got.node.address != expected.node.address || got.node.routers != expected.node.routers ||
+        got.node.hosts != expected.node.hosts)
+        fail("pasa_journal_record differs among", octets, count);
+}
+
+/* The octets as they are, as a journal, which they are too few for; as they begin a slot of zeros or of 0xFF; their CRC; and a record among them. */
 static void journals(const uint8_t *octets, size_t count)
 {
+    record_among(octets, count);
     static uint8_t slot[PASA_SLOT];
     recovery_into(octets, count, PASA_NODES, 1);
     for (int erased = 0; erased < 2; erased++) {

@@ -237,6 +237,10 @@ int main(int count, char **arguments)
            finished, now() - begun, journals);
     printf("%u kills before the first byte, %u in the midst of a slot (%u numbers of bytes, 511 bytes %u times), %u behind the last byte\n", written[0],
            torn, lengths, written[PASA_SLOT - 1], written[PASA_SLOT]);
+    if (times >= 500 && torn == 0) {
+        fprintf(stderr, "no kill fell in the midst of a slot\n");
+        return 1;
+    }
     printf("after each the journal recovered to the hall before the block or behind it\n");
     return 0;
 }

@@ -51,7 +51,7 @@ content xs = firstByte ∷ length xs ∷ (spread xs ++ replicate (checked - addr
 unfoldable pub block : List ℕ → List ℕ
 block xs = content xs ++ (octets 2 (crc (content xs)) ++ (lastByte ∷ []))
 
--- "n is outside 1 to 63"
+-- "a count n of 1 to 63"
 unfoldable pub isCount : ℕ → Bool
 isCount n = leb 1 n && leb n mostAddresses
 

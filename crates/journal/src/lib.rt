@@ -19,7 +19,7 @@ ghost use Rattle.journal.specs.Follows.{Follows};
 ghost use Rattle.journal.specs.Reader.{step, run, begin, finished};
 ghost use Rattle.journal.specs.Writing.{judging, writing};
 
-// Refusals: "the journal's length is wrong or n is outside 1 to 63"; "at least 512 words are lent" and "no slot is erased"; "a 513th node";
+// Refusals: "the journal's length is wrong or n is outside 1 to 63"; fewer than 512 words lent, and "no slot is erased"; "a 513th node";
 // anything else in the journal or in the block that is not right.
 pub const WRONG_LENGTH: u8 = 12;
 

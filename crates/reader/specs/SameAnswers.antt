@@ -1,5 +1,5 @@
 -- "a reader that keeps hold of the lent journal and its place .. which from the first slot on gives the same answers": asked until it is done, it
--- comes to what recovery gives, whatever was lent. A statement of any reader, so that a wrong one can be refuted.
+-- comes to what recovery gives, whatever was lent. A statement of any reader.
 use Prim.Native.Nat.{ℕ, zero, suc}
 use mathlib.Core.Path.{_≡_}
 use mathlib.Core.Bool.{true}

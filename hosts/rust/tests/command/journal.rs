@@ -165,6 +165,7 @@ fn faulty(what: &str, damage: impl Fn(&mut [u8]), why: &str, refusal: &str) {
     for line in ["show @", "draw @", "append @ 111"] {
         refuses(line, &hall, "", &error);
     }
+    refuses(&format!("append @{}", " 111".repeat(64)), &hall, "", &format!("{REFUSED_12}\n64 addresses"));
 }
 
 #[test]

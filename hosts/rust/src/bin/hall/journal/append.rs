@@ -3,7 +3,7 @@ use super::fault::{self, Form};
 use super::{check, file, lock, USAGE};
 use crate::commands::wrong;
 use crate::{text, Done, Failure};
-use pasa::{Refusal, SLOT};
+use pasa::{Refusal, BLOCK_MOST, SLOT};
 use std::ffi::{OsStr, OsString};
 use std::fs::{File, OpenOptions};
 use std::io::{self, Write};
@@ -34,12 +34,15 @@ fn open(word: &OsStr) -> io::Result<File> {
 
 /// Why a block is refused.
 fn refused(refusal: Refusal, journal: &[u8], block: &[u64]) -> Failure {
+    // "12 if the journal's length is wrong or n is outside 1 to 63", whatever else is wrong with the journal
+    if refusal == Refusal::WrongLength && !(1..=BLOCK_MOST).contains(&block.len()) {
+        return Failure::Fault { refusal, shown: format!("{} addresses", block.len()) };
+    }
     let known = match check::nodes(journal) {
         Ok(known) => known,
         Err(failure) => return failure,
     };
     let shown = match refusal {
-        Refusal::WrongLength => Some(format!("{} addresses", block.len())),
         Refusal::NoRoom => {
             let slots = journal.len() / SLOT;
             Some(format!("slots written: {slots} of {slots}"))
