@@ -11,7 +11,7 @@ ghost use Rattle.address.specs.declared.Kind.the-variants.{Router, Host};
 ghost use Rattle.node.specs.Node.{fresh};
 ghost use Rattle.block.specs.Block.{slotBytes, mostAddresses, countIn, addressesIn};
 ghost use Rattle.journal.specs.Limits.{mostNodes};
-ghost use Rattle.journal.specs.Replay.{before, isNext, taken, follow, known};
+ghost use Rattle.journal.specs.Replay.{among, before, isNext, taken, follow, known};
 ghost use Rattle.journal.specs.Record.{children, mostCounted, recordIn};
 ghost use Rattle.journal.specs.Slots.{slotCount, notErased};
 ghost use Rattle.journal.specs.Recovery.{isLength, unfit, recovering};
@@ -82,21 +82,54 @@ fn before(address: u64) -> u64
     half - 1
 }
 
+// Whether one of the four numbers at a place is this one.
+fn among_four(number: u64, list: &[u64], at: usize) -> bool
+    requires { ⌜ at + 4 ≤ length (now list) ⌝ }
+    ensures { λ r. ⌜ r ≡ among number (take 4 (drop at (now (list .entry)))) ⌝ }
+{
+    (list[at] == number)
+        | (list[at + 1] == number)
+        | (list[at + 2] == number)
+        | (list[at + 3] == number)
+}
+
+// Whether a number stands in a list from a place on.
+fn among_rest(number: u64, list: &[u64], from: usize) -> bool
+    requires { ⌜ from ≤ length (now list) ⌝ }
+    ensures { λ r. ⌜ r ≡ among number (drop from (now (list .entry))) ⌝ }
+{
+    let mut i = from;
+    while i < list.len() {
+        if list[i] == number {
+            return true;
+        }
+        i += 1;
+    }
+    false
+}
+
+// Whether a number stands in a list: four at a time as long as there are four, since most of recovery's time goes here and in the check.
+fn among(number: u64, list: &[u64]) -> bool
+    ensures { λ r. ⌜ r ≡ among number (now (list .entry)) ⌝ }
+{
+    let mut i = 0;
+    while 4 <= list.len() - i {
+        if among_four(number, list, i) {
+            return true;
+        }
+        i += 4;
+    }
+    among_rest(number, list, i)
+}
+
 // Whether an address is the next child of a known node.
 fn is_next(address: u64, known: &[u64]) -> bool
     ensures { λ r. ⌜ r ≡ isNext (now (known .entry)) address ⌝ }
 {
-    let earlier = before(address);
-    let mut ready = false;
-    let mut given = false;
-    let mut i = 0;
-    while i < known.len() {
-        let word = known[i];
-        ready = ready | (word == earlier);
-        given = given | (word == address);
-        i += 1;
+    if !among(before(address), known) {
+        return false;
     }
-    ready & !given
+    !among(address, known)
 }
 
 pub fn refuse(number: u8) -> Recovered

@@ -1,74 +1,34 @@
--- `journal::is_next` meets its contract: before each turn, what is found so far and what stands from the place on come to what stands in the whole.
-use Prim.Native.Nat.{ℕ, _≤_, _<_, _-_, _+_, suc}
-use mathlib.Core.Path.{_≡_, refl, sym, ap, ap₂, _∙_}
-use mathlib.Core.Bool.{Bool, _||_, _&&_, not}
-use mathlib.Core.List.{List}
-use native.Mathlib.Omega.{arith}
+-- `journal::is_next` meets its contract: the two look-ups of the definition, the second only where the first finds.
+use mathlib.Core.Path.{_≡_, refl, sym, ap, _∙_}
+use mathlib.Core.Bool.{Bool, not}
+use Prim.Native.Nat.{ℕ}
 use borrow.Author.Needs.{needs}
-use lib.ListN.{length, drop}
-use Rattle.journal.specs.Replay.{among, isNext, before}
-use Rattle.journal.proofs.AmongLaws.{among-turn, among-end}
+use borrow.Author.Tests.{not-true, not-false}
+use Rattle.journal.specs.Replay.{among, isNext}
+use Rattle.journal.proofs.AmongLaws.{isNext-late, isNext-ready}
 use Rattle.journal.proofs.is_next.Statement.{statement}
 use Rattle.journal.proofs.is_next.Tie as tie
 
-abbrev Inv-loop : tie.InvT-loop
-Inv-loop address known earlier ready₀ given₀ i₀ ready given i =
-    (i ≤ length known) × ((ready || among earlier (drop i known)) ≡ among earlier known)
-    × ((given || among address (drop i known)) ≡ among address known)
-
-abbrev μ-loop : tie.MeasureT-loop
-μ-loop address known earlier ready₀ given₀ i₀ ready given i = length known - i
-
-before-requires : tie.Need-before-requires Inv-loop μ-loop
+before-requires : tie.Need-before-requires
 before-requires c κs = search needs
 
-loop-holds : tie.Need-loop-holds Inv-loop μ-loop
-loop-holds c = (omega arith, refl, refl)
+among-requires : tie.Need-among-requires
+among-requires c κs = search needs
 
-mul-word : tie.Need-mul-word Inv-loop μ-loop
-mul-word c = search needs
-
-shared-slice-read-word : tie.Need-shared-slice-read-word Inv-loop μ-loop
-shared-slice-read-word c = search needs
-
-add-i : tie.Need-add-i Inv-loop μ-loop
-add-i c = search needs
-
-loop-less : tie.Need-loop-less Inv-loop μ-loop
-loop-less c = omega arith
-
-loop-again : tie.Need-loop-again Inv-loop μ-loop
-loop-again c =
-    let xs = c .before .before .before .before .before .args .known .now in
-    let loop = c .before .before .loop in
-    let within : loop .i < length xs = omega arith in
-    let next : loop .i + 1 ≡ suc (loop .i) = omega arith in (
-      omega arith,
-      rw next (sym (among-turn _ xs (loop .i) (loop .ready) within) ∙ loop .inv .1),
-      rw next (sym (among-turn _ xs (loop .i) (loop .given) within) ∙ loop .inv .2),
-    )
-
-returns : tie.Need-returns Inv-loop μ-loop
-unfolding isNext
+returns : tie.Need-returns
 returns c =
-    let xs = c .before .before .before .before .args .known .now in
-    let loop = c .before .loop in
-    let ready = sym (among-end _ xs (loop .i) (loop .ready) (omega arith)) ∙ loop .inv .1 in
-    let given = sym (among-end _ xs (loop .i) (loop .given) (omega arith)) ∙ loop .inv .2 in
-    ap₂ (λ (r g : Bool). r && not g)
-    (ready ∙ ap (λ (b : ℕ). among b xs) (c .before .before .before2 .ensures)) given
+    let at = c .before .before .before .before .args in
+    let looked = ap (λ (b : ℕ). among b (at .known .now)) (sym (c .before .before .before2 .ensures)) ∙ sym (c .before .among .ensures) in
+    sym (isNext-late (at .known .now) (at .address) (looked ∙ not-true _ (c .if1 .taken)))
+
+among-requires-2 : tie.Need-among-requires-2
+among-requires-2 c κs = search needs
+
+returns-2 : tie.Need-returns-2
+returns-2 c =
+    let at = c .before .before .before .before .before .args in
+    let looked = ap (λ (b : ℕ). among b (at .known .now)) (sym (c .before .before .before .before2 .ensures)) ∙ sym (c .before .before .among .ensures) in
+    ap not (c .among2 .ensures) ∙ sym (isNext-ready (at .known .now) (at .address) (looked ∙ not-false _ (c .before .if1 .left)))
 
 pub is-next-spec : {M : Type 1} → statement M
-is-next-spec =
-    tie.close
-    (tie.spec
-    Inv-loop
-    μ-loop
-    before-requires
-    loop-holds
-    mul-word
-    shared-slice-read-word
-    add-i
-    loop-less
-    loop-again
-    returns)
+is-next-spec = tie.close (tie.spec before-requires among-requires returns among-requires-2 returns-2)
