@@ -10,9 +10,9 @@ use Rattle.address.specs.Address.{depth}
 use Rattle.address.specs.Numbers.{IsAddress}
 use Rattle.address.specs.declared.Kind.{Kind}
 use Rattle.address.proofs.Steps.{spelled-steps}
-use Rattle.node.specs.Node.{Node, Given, addressIn, isGood, childBits, refuseChild, childOf}
+use Rattle.node.specs.Node.{Node, Given, addressIn, limit, isGood, childBits, refuseChild, childOf}
 use Rattle.node.specs.Children.{IsChild, GivesChildren}
-use Rattle.node.proofs.Children.{address-good, addressIn-raised, MayGive, mayGive, childOf-cases, childOf-given, isGood-raised, steps-child, address-child, parent-child}
+use Rattle.node.proofs.Children.{address-good, addressIn-raised, limit-raised, MayGive, mayGive, childOf-cases, childOf-given, isGood-raised, steps-child, address-child, parent-child}
 
 module _ (n : Node) (kind : Kind) (may : MayGive n kind) (a : IsAddress (addressIn n)) where
   is-child : IsChild n kind (number (childBits n kind))
@@ -35,6 +35,11 @@ unfolding refuseChild
 keeps-address n kind = ⊎-elim (λ may. ap (λ (x : Given). addressIn (x .node)) (childOf-given may) ∙ addressIn-raised kind n)
     (λ r. ap (λ (x : Given). addressIn (x .node)) (r .1)) (childOf-cases n kind)
 
+keeps-limits : (n : Node) (kind other : Kind) → limit other (childOf n kind .node) ≡ limit other n
+unfolding refuseChild
+keeps-limits n kind other = ⊎-elim (λ may. ap (λ (x : Given). limit other (x .node)) (childOf-given may) ∙ limit-raised kind other n)
+    (λ r. ap (λ (x : Given). limit other (x .node)) (r .1)) (childOf-cases n kind)
+
 pub gives-children : GivesChildren
 gives-children = record {
   isChild = λ n kind fits e.
@@ -42,4 +47,5 @@ gives-children = record {
       rw (childOf-given may) (is-child n kind may (address-good n (may .good) fits));
   keepsGood = keeps-good;
   keepsAddress = keeps-address;
+  keepsLimits = keeps-limits;
 }

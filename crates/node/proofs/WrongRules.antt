@@ -1,18 +1,23 @@
 -- Each wrong rule is refuted by its answer to one record: the right rule's number there is the only one that the statement allows.
-use mathlib.Core.Path.{_≡_, refl}
+use mathlib.Core.Path.{_≡_, refl, ap}
+use Prim.Native.Nat.{ℕ}
 use native.Mathlib.Omega.{arith}
 use Rattle.address.specs.Bits.{lastBit, bitsIn, bits, digit, numberFrom, number, root}
 use Rattle.address.specs.Steps.{lastOf, stepBits}
 use Rattle.address.specs.Address.{bitLength, endsInOne, isHost}
 use Rattle.address.specs.declared.Kind.{Kind}
 use Rattle.address.specs.declared.Kind.the-variants.{Router, Host}
-use Rattle.node.specs.Node.{Node, Given, fresh, withCounts, count, raised, isGood, childBits, refuseChild, childOf}
-use Rattle.node.specs.Refusals.{ChildRefusals}
+use Rattle.node.specs.Node.{Node, Given, Limited, fresh, withCounts, count, raised, limit, withLimits, withLimit, fitsAddress, fitsLimit, isGood}
+use Rattle.node.specs.Node.{childBits, refuseChild, childOf, refuseSetting, setLimit}
+use Rattle.node.specs.Refusals.{ChildRefusals, SettingRefusals}
+use Rattle.node.proofs.Opened.{records-opened}
 use Rattle.node.specs.WrongRules.{givesChild, refusesAll, rootIsHost, hostFirst, oneTooMany, shortOfLimit, addressBeside}
-use Rattle.node.proofs.RefusalLaws.{child-refusals}
+use Rattle.node.specs.WrongRules.{childBy, pastLimit, limitless, oneLimit, oneMore, limitLast, limitFirst}
+use Rattle.node.specs.WrongRules.{settingBy, allowedLimit, setsNothing, setsBelow, setsAbove, setsCut, setsBoth, mendsRecord, other, setsOther}
+use Rattle.node.proofs.RefusalLaws.{child-refusals, setting-refusals}
 
 opened : Unit {0}
-unfolding lastBit bitsIn bits digit numberFrom number lastOf stepBits bitLength endsInOne isHost fresh withCounts count raised isGood childBits refuseChild childOf givesChild
+unfolding lastBit bitsIn bits digit numberFrom number lastOf stepBits bitLength endsInOne isHost records-opened givesChild childBy settingBy allowedLimit
 opened = tt
 
 -- the statement allows one number at each record
@@ -48,3 +53,73 @@ shortOfLimit-refuted claim = omega (arith, same-number shortOfLimit claim (fresh
 pub addressBeside-refuted : ChildRefusals addressBeside → ⊥
 unfolding opened addressBeside
 addressBeside-refuted claim = omega (arith, claim .beside (fresh 0b11) Router (λ e. omega arith) .0)
+
+-- ---- limits
+
+-- the root at its limit of 0
+pub pastLimit-refuted : ChildRefusals pastLimit → ⊥
+unfolding opened pastLimit
+pastLimit-refuted claim = omega (arith, same-number pastLimit claim (withLimits 0 0 (fresh root)) Router)
+
+-- the root with a limit of 65
+pub limitless-refuted : ChildRefusals limitless → ⊥
+unfolding opened limitless
+limitless-refuted claim = omega (arith, same-number limitless claim (withLimits 65 64 (fresh root)) Host)
+
+-- the root that may give no router, asked for a host
+pub oneLimit-refuted : ChildRefusals oneLimit → ⊥
+unfolding opened oneLimit
+oneLimit-refuted claim = omega (arith, same-number oneLimit claim (withLimits 0 64 (fresh root)) Host)
+
+-- the root with one router of one
+pub oneMore-refuted : ChildRefusals oneMore → ⊥
+unfolding opened oneMore
+oneMore-refuted claim = omega (arith, same-number oneMore claim (withLimits 1 1 (withCounts 1 0 (fresh root))) Router)
+
+-- a router of 64 bits that may give none
+pub limitLast-refuted : ChildRefusals limitLast → ⊥
+unfolding opened limitLast
+limitLast-refuted claim = omega (arith, same-number limitLast claim (withLimits 0 0 (fresh 0x8000_0000_0000_0000)) Router)
+
+-- host 11 with limits of 0
+pub limitFirst-refuted : ChildRefusals limitFirst → ⊥
+unfolding opened limitFirst
+limitFirst-refuted claim = omega (arith, same-number limitFirst claim (withLimits 0 0 (fresh 0b11)) Router)
+
+-- ---- settings
+
+same-refusal : (rule : Node → Kind → ℕ → Limited) → SettingRefusals rule → (n : Node) (kind : Kind) (k : ℕ)
+    → rule n kind k .refusal ≡ setLimit n kind k .refusal
+same-refusal rule claim n kind k =
+    claim .given n kind k (setLimit n kind k .refusal) .1 (setting-refusals .given n kind k (setLimit n kind k .refusal) .0 refl)
+
+pub setsNothing-refuted : SettingRefusals setsNothing → ⊥
+unfolding opened setsNothing
+setsNothing-refuted claim = omega (arith, same-refusal setsNothing claim (fresh root) Router 0)
+
+-- the root with one router, none allowed
+pub setsBelow-refuted : SettingRefusals setsBelow → ⊥
+unfolding opened setsBelow
+setsBelow-refuted claim = omega (arith, same-refusal setsBelow claim (withCounts 1 0 (fresh root)) Router 0)
+
+pub setsAbove-refuted : SettingRefusals setsAbove → ⊥
+unfolding opened setsAbove
+setsAbove-refuted claim = omega (arith, same-refusal setsAbove claim (fresh root) Router 65)
+
+pub setsCut-refuted : SettingRefusals setsCut → ⊥
+unfolding opened setsCut
+setsCut-refuted claim = omega (arith, same-refusal setsCut claim (fresh root) Router 256)
+
+-- the root's limit on hosts, when that on routers is set
+pub setsBoth-refuted : SettingRefusals setsBoth → ⊥
+unfolding opened setsBoth
+setsBoth-refuted claim = omega (arith, ap (limit Host) (claim .without (fresh root) Router 0 refl))
+
+-- a root with a limit of 65
+pub mendsRecord-refuted : SettingRefusals mendsRecord → ⊥
+unfolding opened mendsRecord
+mendsRecord-refuted claim = omega (arith, same-refusal mendsRecord claim (withLimits 65 64 (fresh root)) Router 64)
+
+pub setsOther-refuted : SettingRefusals setsOther → ⊥
+unfolding opened setsOther other
+setsOther-refuted claim = omega (arith, ap (limit Router) (claim .without (fresh root) Router 0 refl))

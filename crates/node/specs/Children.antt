@@ -8,7 +8,7 @@ use Rattle.address.specs.Steps.{child, steps, stepBits}
 use Rattle.address.specs.Address.{depth, parent}
 use Rattle.address.specs.Numbers.{IsAddress}
 use Rattle.address.specs.declared.Kind.{Kind}
-use Rattle.node.specs.Node.{Node, addressIn, count, isGood, childOf}
+use Rattle.node.specs.Node.{Node, addressIn, count, limit, isGood, childOf}
 
 pub record IsChild (n : Node) (kind : Kind) (d : ℕ) : Type 0 where
   pub address : IsAddress d
@@ -23,6 +23,7 @@ pub record IsChild (n : Node) (kind : Kind) (d : ℕ) : Type 0 where
 -- for every record of a 64-bit address that gives a child
 pub record GivesChildren : Type 0 where
   pub isChild : (n : Node) (kind : Kind) → addressIn n < 2 ^ longest → childOf n kind .refusal ≡ 0 → IsChild n kind (childOf n kind .child .number)
-  -- a request keeps the record good, refused or not, and its address
+  -- a request keeps the record good, refused or not, its address and its limits
   pub keepsGood : (n : Node) (kind : Kind) → isGood n ≡ true → isGood (childOf n kind .node) ≡ true
   pub keepsAddress : (n : Node) (kind : Kind) → addressIn (childOf n kind .node) ≡ addressIn n
+  pub keepsLimits : (n : Node) (kind other : Kind) → limit other (childOf n kind .node) ≡ limit other n

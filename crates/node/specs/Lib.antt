@@ -2,4 +2,5 @@
 pub mod Node
 pub mod Refusals
 pub mod Children
+pub mod Settings
 pub mod WrongRules

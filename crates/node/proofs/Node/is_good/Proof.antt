@@ -1,61 +1,33 @@
 -- `Node::is_good` meets its contract: its tests are those of `isGood`, in the same order.
-use mathlib.Core.Path.{_≡_, sym, _∙_}
-use mathlib.Core.Bool.{true, false}
-use native.Mathlib.Omega.{arith}
+use mathlib.Core.Path.{sym, _∙_}
 use borrow.Author.Needs.{needs}
-use Rattle.address.specs.Address.{isHost}
-use Rattle.address.proofs.Numbers.{bitLength-le}
-use Rattle.node.proofs.ChildLaws.{isGood-zero, isGood-host-routers, isGood-host, isGood-routers, isGood-hosts}
+use borrow.Author.Tests.{not-true, not-false}
+use Rattle.node.proofs.ChildLaws.{isGood-routers, isGood-hosts, isGood-kept}
 use Rattle.node.proofs.Node.is_good.Statement.{statement}
 use Rattle.node.proofs.Node.is_good.Tie as tie
 
+fits-limit-requires : tie.Need-fits-limit-requires
+fits-limit-requires c κs = search needs
+
 returns : tie.Need-returns
-returns c = sym (isGood-zero _ (omega arith))
+returns c = sym (isGood-routers _ (sym (c .before .fits-limit .ensures) ∙ not-true _ (c .if1 .taken)))
 
-is-host-requires : tie.Need-is-host-requires
-is-host-requires c κs = search needs
-
-host : (c : tie.Then2) → isHost (c .before .before .before .before .args .self .address .number) ≡ true
-host c = sym (c .before .is-host .ensures) ∙ c .if2 .taken
-
-not-host : (c : tie.Else2) → isHost (c .before .before .before .before .args .self .address .number) ≡ false
-not-host c = sym (c .before .is-host .ensures) ∙ c .if2 .left
+fits-limit-requires-2 : tie.Need-fits-limit-requires-2
+fits-limit-requires-2 c κs = search needs
 
 returns-2 : tie.Need-returns-2
-returns-2 c = sym (isGood-host-routers _ (omega arith) (host (c .before .before)) (c .if3 .taken))
+returns-2 c = sym (isGood-hosts _ (sym (c .before .fits-limit2 .ensures) ∙ not-true _ (c .if2 .taken)))
+
+fits-address-requires : tie.Need-fits-address-requires
+fits-address-requires c κs = search needs
 
 returns-3 : tie.Need-returns-3
-returns-3 c = sym (isGood-host _ (omega arith) (host (c .before .before .before)) (omega arith))
-
-bit-length-requires : tie.Need-bit-length-requires
-bit-length-requires c κs = search needs
-
-sub-room : tie.Need-sub-room
-sub-room c = omega (arith, bitLength-le {n = c .before .before .before .before .before .args .self .address .number} (omega arith))
-
-cast-if4 : tie.Need-cast-if4
-cast-if4 c = search needs
-
-returns-4 : tie.Need-returns-4
-returns-4 c = sym (isGood-routers _ (omega arith) (not-host (c .before .before .before)) (omega arith))
-
-cast-result : tie.Need-cast-result
-cast-result c = search needs
-
-returns-5 : tie.Need-returns-5
-returns-5 c = rw (c .before .before .before .bit-length .ensures) (sym (isGood-hosts _ (omega arith) (not-host (c .before .before .before .before)) (omega arith)))
+returns-3 c =
+    let hosts = c .before in
+    let routers = hosts .before .before in
+    c .fits-address .ensures
+    ∙ sym (isGood-kept _ (sym (routers .before .fits-limit .ensures) ∙ not-false _ (routers .if1 .left))
+    (sym (hosts .before .fits-limit2 .ensures) ∙ not-false _ (hosts .if2 .left)))
 
 pub is-good-spec : {M : Type 1} → statement M
-is-good-spec =
-    tie.close
-    (tie.spec
-    returns
-    is-host-requires
-    returns-2
-    returns-3
-    bit-length-requires
-    sub-room
-    cast-if4
-    returns-4
-    cast-result
-    returns-5)
+is-good-spec = tie.close (tie.spec fits-limit-requires returns fits-limit-requires-2 returns-2 fits-address-requires returns-3)

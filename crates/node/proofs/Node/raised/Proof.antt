@@ -1,5 +1,5 @@
 -- `Node::raised` meets its contract: each arm is a clause of `raised`, and the count that it raises is the one below 255.
-use mathlib.Core.Path.{_≡_, sym, ap, subst}
+use mathlib.Core.Path.{_≡_, sym, ap, subst, _∙_}
 use Prim.Native.Nat.{_<_}
 use native.Mathlib.Omega.{arith}
 use borrow.Author.Needs.{needs}
@@ -12,36 +12,44 @@ use Rattle.node.proofs.Node.raised.Tie as tie
 enum-told : tie.Need-enum-told
 enum-told c = search needs
 
-add-t5 : tie.Need-add-t5
+add-with-counts : tie.Need-add-with-counts
 unfolding count
-add-t5 c =
-    let entry = c .before .before .before .before in
+add-with-counts c =
+    let entry = c .before .before .before in
     let kind : entry .args .kind ≡ Router = cc in
     omega (arith, subst (λ (k : Kind). count k (entry .args .self) < 255) kind (entry .pre))
+
+with-counts-requires : tie.Need-with-counts-requires
+with-counts-requires c κs = search needs
 
 enum-told-2 : tie.Need-enum-told-2
 enum-told-2 c = search needs
 
-add-t6 : tie.Need-add-t6
+add-with-counts-2 : tie.Need-add-with-counts-2
 unfolding count
-add-t6 c =
-    let entry = c .before .before .before .before in
+add-with-counts-2 c =
+    let entry = c .before .before .before in
     let kind : entry .args .kind ≡ Host = cc in
     omega (arith, subst (λ (k : Kind). count k (entry .args .self) < 255) kind (entry .pre))
+
+with-counts-requires-2 : tie.Need-with-counts-requires-2
+with-counts-requires-2 c κs = search needs
 
 returns : tie.Need-returns
 unfolding raised
 returns c =
     let entry = c .before .before .before .before .args in
     let kind : entry .kind ≡ Router = cc in
-    sym (ap (λ (k : Kind). raised k (entry .self)) kind)
+    c .with-counts .ensures ∙ sym (ap (λ (k : Kind). raised k (entry .self)) kind)
 
 returns-2 : tie.Need-returns-2
 unfolding raised
 returns-2 c =
     let entry = c .before .before .before .before .args in
     let kind : entry .kind ≡ Host = cc in
-    sym (ap (λ (k : Kind). raised k (entry .self)) kind)
+    c .with-counts2 .ensures ∙ sym (ap (λ (k : Kind). raised k (entry .self)) kind)
 
 pub raised-spec : {M : Type 1} → statement M
-raised-spec = tie.close (tie.spec enum-told add-t5 enum-told-2 add-t6 returns returns-2)
+raised-spec =
+    tie.close
+    (tie.spec enum-told add-with-counts with-counts-requires enum-told-2 add-with-counts-2 with-counts-requires-2 returns returns-2)
