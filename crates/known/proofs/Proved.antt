@@ -6,14 +6,14 @@ use Rattle.address.specs.Steps.{lastStep, cut, stepsOf, steps, lastOf, stepBits
 use Rattle.address.specs.Address.{bitLength, endsInOne, isHost, above, parent}
 use Rattle.octets.specs.Octets.{octets, joined, value, refuseWriting, write}
 use Rattle.search.specs.Search.{lookedAt, sameBit, isPrefix, kindLooked, indexLooked}
-use Rattle.node.specs.Node.{fresh, withCounts, count, raised, isGood, childBits, refuseChild, childOf}
+use Rattle.node.proofs.Opened.{records-opened}
 use Rattle.forward.specs.Forward.{toward, rules, nextHop}
 use Rattle.header.specs.Header.{size, place, header, writing}
 use Rattle.header.specs.Header.{inOrder, startFault, sizeTold, addressOctets, zeroFault, addressFault, reading}
 
 pub known-values : KnownValues
 unfolding table afterAll lastBit bitsIn bits digit numberFrom number lastStep cut stepsOf steps lastOf stepBits spelled addressOf bitLength
-    endsInOne isHost above parent octets joined value refuseWriting write lookedAt sameBit isPrefix kindLooked indexLooked fresh withCounts
-    count raised isGood childBits refuseChild childOf toward rules nextHop size place header writing inOrder startFault sizeTold
+    endsInOne isHost above parent octets joined value refuseWriting write lookedAt sameBit isPrefix kindLooked indexLooked
+    records-opened toward rules nextHop size place header writing inOrder startFault sizeTold
     addressOctets zeroFault addressFault reading
 known-values = (refl, (refl, (refl, (refl, (refl, (refl, (refl, (refl, (refl, (refl, (refl, (refl, (refl, (refl, (refl, tt)))))))))))))))

@@ -13,9 +13,10 @@ use Rattle.address.specs.Bits.{lastBit, bitsIn, bits, digit, numberFrom, number
 use Rattle.address.specs.Steps.{lastOf, stepBits}
 use Rattle.address.specs.Address.{bitLength, endsInOne, isHost}
 use Rattle.address.specs.declared.Kind.the-variants.{Host}
-use Rattle.node.specs.Node.{fresh, count, raised, isGood, childBits, refuseChild, childOf}
+use Rattle.node.specs.Node.{fresh, count, childOf}
 use Rattle.node.specs.declared.Node.{Node}
 use Rattle.node.proofs.ChildLaws.{room}
+use Rattle.node.proofs.Opened.{records-opened}
 use Rattle.node.proofs.Children.{count-raised, count-le}
 use Rattle.node.proofs.RefusalLaws.{child-refusals}
 use Rattle.node.proofs.GivenChildren.{gives-children}
@@ -68,7 +69,7 @@ readFromBy-right (o ∷ s) p e = elim (move e o) as (λ (m : Move).
 -- whoever unfolds `opened` unfolds all that the answers below are computed by
 
 addresses-opened : Unit {0}
-unfolding lastBit bitsIn bits digit numberFrom number lastOf stepBits bitLength endsInOne isHost fresh count raised isGood childBits refuseChild childOf
+unfolding lastBit bitsIn bits digit numberFrom number lastOf stepBits bitLength endsInOne isHost records-opened
 addresses-opened = tt
 
 opened : Unit {0}
