@@ -5,7 +5,7 @@ use mathlib.Core.Logic.{⊎-elim}
 use native.Mathlib.Omega.{arith}
 use lib.ListN.{length}
 use Rattle.address.specs.Bits.{number}
-use Rattle.address.specs.Steps.{child, spelled}
+use Rattle.address.specs.Steps.{spelled}
 use Rattle.address.specs.Address.{depth}
 use Rattle.address.specs.Numbers.{IsAddress}
 use Rattle.address.specs.declared.Kind.{Kind}

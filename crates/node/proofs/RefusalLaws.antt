@@ -3,7 +3,7 @@
 use mathlib.Core.Path.{_≡_, refl, sym, ap, _∙_}
 use mathlib.Core.Bool.{Bool, true, false}
 use mathlib.Core.Logic.{_⊎_, inl, inr, ⊎-elim}
-use Prim.Native.Nat.{ℕ, suc, _-_, _≤_, _<_}
+use Prim.Native.Nat.{ℕ, _-_, _≤_, _<_}
 use native.Mathlib.Decide.{ℕ-discrete}
 use native.Mathlib.Omega.{arith}
 use lib.Dec.{leb, ltb}
@@ -17,7 +17,7 @@ use Rattle.address.specs.declared.Kind.the-variants.{Router, Host}
 use Rattle.address.proofs.OrderLaws.{given-exactly}
 use Rattle.address.proofs.KindLaws.{kinds, isHost-true, isHost-host, isHost-no-host, ends-pos}
 use Rattle.node.specs.Node.{Node, Given, Limited, addressIn, noCap, count, limit, withLimit, isGood, refuseChild, childOf, refuseSetting, setLimit}
-use Rattle.node.specs.Refusals.{FitsAddress, inner, outer, FitsLimits, IsGood, IsBad, childLength, childOrder, GoodRecords, ChildRefusals}
+use Rattle.node.specs.Refusals.{FitsAddress, inner, outer, IsGood, IsBad, childLength, childOrder, GoodRecords, ChildRefusals}
 use Rattle.node.specs.Refusals.{settingOrder, SettingRefusals}
 use Rattle.node.proofs.ChildLaws.{some-good, limit-most, count-kept, childOf-bad, childOf-host, childOf-limit, childOf-long, childOf-done}
 use Rattle.node.proofs.ChildLaws.{setLimit-bad, setLimit-over, setLimit-below, setLimit-done}

@@ -7,8 +7,8 @@ use Rattle.address.specs.Steps.{lastOf, stepBits}
 use Rattle.address.specs.Address.{bitLength, endsInOne, isHost}
 use Rattle.address.specs.declared.Kind.{Kind}
 use Rattle.address.specs.declared.Kind.the-variants.{Router, Host}
-use Rattle.node.specs.Node.{Node, Given, Limited, fresh, withCounts, count, raised, limit, withLimits, withLimit, fitsAddress, fitsLimit, isGood}
-use Rattle.node.specs.Node.{childBits, refuseChild, childOf, refuseSetting, setLimit}
+use Rattle.node.specs.Node.{Node, Given, Limited, fresh, withCounts, limit, withLimits}
+use Rattle.node.specs.Node.{childOf, setLimit}
 use Rattle.node.specs.Refusals.{ChildRefusals, SettingRefusals}
 use Rattle.node.proofs.Opened.{records-opened}
 use Rattle.node.specs.WrongRules.{givesChild, refusesAll, rootIsHost, hostFirst, oneTooMany, shortOfLimit, addressBeside}

@@ -1,5 +1,5 @@
--- The nodes of a grown tree are the root and the addresses that the replies give: a request keeps the addresses of the tree, since the record
--- handed back keeps its own, and puts a child's behind them where it is given. Assumes nothing.
+-- The nodes of a grown tree are the root and the addresses that the replies give: a request or a setting keeps the addresses of the tree, since the
+-- record handed back keeps its own, and a request puts a child's behind them where it is given. Assumes nothing.
 use mathlib.Core.Path.{_≡_, refl, sym, ap, _∙_}
 use mathlib.Core.List.{List, [], _∷_, _++_, append-nil, append-assoc, map, map-append}
 use Prim.Native.Nat.{ℕ, zero, suc}
@@ -8,11 +8,13 @@ use borrow.Author.Tests.{ne-eqb}
 use lib.Dec.{eqb}
 use Rattle.address.specs.Choice.{if_then_else_}
 use Rattle.address.specs.Bits.{root}
-use Rattle.node.specs.Node.{addressIn, fresh, childOf}
+use Rattle.node.specs.Node.{addressIn, fresh, childOf, setLimit}
 use Rattle.node.specs.declared.Given.{Given}
 use Rattle.node.proofs.Children.{addressIn-fresh}
 use Rattle.node.proofs.GivenChildren.{gives-children}
-use Rattle.tree.specs.Tree.{Request, request, Tree, bareRoot, Record, standing, absent, recordOf, replaced, withChild, answered, askedOf, ask, grow, grown, addresses, Reply, replied, nobody, givenBy, givenIn}
+use Rattle.node.proofs.Settings.{sets-limits}
+use Rattle.tree.specs.Tree.{Request, request, Event, asking, setting, Tree, bareRoot, Record, standing, absent, recordOf, replaced, withChild, answered, askedOf}
+use Rattle.tree.specs.Tree.{settled, settingOf, ask, happen, grow, grown, addresses, Reply, replied, limited, nobody, givenBy, givenIn}
 use Rattle.tree.proofs.Trees.{addresses-replaced, addressIn-recordOf}
 
 pub givenBy-append : (xs ys : List Reply) → givenBy (xs ++ ys) ≡ givenBy xs ++ givenBy ys
@@ -20,6 +22,7 @@ unfolding givenBy
 givenBy-append [] ys = refl
 givenBy-append (replied zero a ∷ xs) ys = ap (λ (l : List ℕ). a ∷ l) (givenBy-append xs ys)
 givenBy-append (replied (suc n) a ∷ xs) ys = givenBy-append xs ys
+givenBy-append (limited n ∷ xs) ys = givenBy-append xs ys
 givenBy-append (nobody ∷ xs) ys = givenBy-append xs ys
 
 addresses-withChild : (g : Given) (t : Tree) → addresses (withChild g t) ≡ addresses t ++ givenBy (replied (g .refusal) (g .child .number) ∷ [])
@@ -44,16 +47,29 @@ addresses-ask t (request a kind) = go (recordOf a t) refl
         (addresses-replaced (childOf n kind .node) (gives-children .keepsAddress n kind ∙ addressIn-recordOf a n t e) t)
     go absent e = unfold askedOf givenBy in sym (append-nil (addresses t))
 
-pub addresses-grow : (t : Tree) (rs : List Request) → addresses (grow childOf t rs .tree) ≡ addresses t ++ givenBy (grow childOf t rs .replies)
+pub addresses-happen : (t : Tree) (e : Event)
+    → addresses (happen childOf setLimit t e .tree) ≡ addresses t ++ givenBy (happen childOf setLimit t e .replies)
+unfolding happen
+addresses-happen t (asking r) = addresses-ask t r
+addresses-happen t (setting a kind k) = go (recordOf a t) refl
+  where
+    go : (x : Record) → recordOf a t ≡ x
+        → addresses (settingOf setLimit x a kind k t .tree) ≡ addresses t ++ givenBy (settingOf setLimit x a kind k t .replies)
+    go (standing n) e = unfold settingOf settled givenBy in
+        addresses-replaced (setLimit n kind k .node) (sets-limits .keepsAddress n kind k ∙ addressIn-recordOf a n t e) t
+        ∙ sym (append-nil (addresses t))
+    go absent e = unfold settingOf givenBy in sym (append-nil (addresses t))
+
+pub addresses-grow : (t : Tree) (es : List Event) → addresses (grow childOf setLimit t es .tree) ≡ addresses t ++ givenBy (grow childOf setLimit t es .replies)
 unfolding grow
 addresses-grow t [] = unfold givenBy in sym (append-nil (addresses t))
-addresses-grow t (r ∷ rs) =
-    addresses-grow (ask childOf t r .tree) rs
-    ∙ ap (λ (l : List ℕ). l ++ givenBy (grow childOf (ask childOf t r .tree) rs .replies)) (addresses-ask t r)
-    ∙ append-assoc (addresses t) (givenBy (ask childOf t r .replies)) (givenBy (grow childOf (ask childOf t r .tree) rs .replies))
-    ∙ ap (λ (l : List ℕ). addresses t ++ l) (sym (givenBy-append (ask childOf t r .replies) (grow childOf (ask childOf t r .tree) rs .replies)))
+addresses-grow t (e ∷ es) =
+    addresses-grow (happen childOf setLimit t e .tree) es
+    ∙ ap (λ (l : List ℕ). l ++ givenBy (grow childOf setLimit (happen childOf setLimit t e .tree) es .replies)) (addresses-happen t e)
+    ∙ append-assoc (addresses t) (givenBy (happen childOf setLimit t e .replies)) (givenBy (grow childOf setLimit (happen childOf setLimit t e .tree) es .replies))
+    ∙ ap (λ (l : List ℕ). addresses t ++ l) (sym (givenBy-append (happen childOf setLimit t e .replies) (grow childOf setLimit (happen childOf setLimit t e .tree) es .replies)))
 
-pub addresses-grown : (rs : List Request) → addresses (grown childOf rs) ≡ root ∷ givenIn childOf rs
+pub addresses-grown : (es : List Event) → addresses (grown childOf setLimit es) ≡ root ∷ givenIn childOf setLimit es
 unfolding grown givenIn bareRoot addresses
-addresses-grown rs =
-    addresses-grow bareRoot rs ∙ ap (λ (a : ℕ). a ∷ givenBy (grow childOf bareRoot rs .replies)) (addressIn-fresh root)
+addresses-grown es =
+    addresses-grow bareRoot es ∙ ap (λ (a : ℕ). a ∷ givenBy (grow childOf setLimit bareRoot es .replies)) (addressIn-fresh root)

@@ -1,5 +1,6 @@
 -- Every grown tree is sound. The bare root is, and a request keeps a sound tree sound: refused or asked of nobody it changes nothing, and a
--- child given is the one step that the count raised makes room for, so it is new, hangs from the node asked, and has no children itself.
+-- child given is the one step that the count raised makes room for, so it is new, hangs from the node asked, and has no children itself. A setting
+-- hands back a good record of the same address and counts, and soundness asks no more of one.
 use Prim.Native.Nat.{ℕ, suc, _+_, _<_}
 use mathlib.Core.Path.{_≡_, refl, sym, ap, _∙_, subst}
 use mathlib.Core.Bool.{true}
@@ -16,12 +17,13 @@ use Rattle.address.specs.Address.{depth, above, parent}
 use Rattle.address.specs.Numbers.{IsAddress}
 use Rattle.address.proofs.Steps.{addressOf-steps, depth-range}
 use Rattle.address.proofs.Ancestors.{steps-injective}
-use Rattle.node.specs.Node.{addressIn, fresh, count, raised, isGood, childBits, refuseChild, childOf}
+use Rattle.node.specs.Node.{addressIn, fresh, count, raised, isGood, childBits, refuseChild, childOf, setLimit}
 use Rattle.node.specs.declared.Node.{Node}
 use Rattle.node.proofs.Children.{count-le-raised, lt-raised, addressIn-fresh, count-fresh, addressIn-raised, count-raised, isGood-fresh}
 use Rattle.node.proofs.Children.{MayGive, childOf-cases, childOf-given, isGood-raised, steps-child, address-child, parent-child}
-use Rattle.tree.specs.Tree.{Request, request, Tree, bareRoot, Record, standing, absent, recordOf, replaced, withChild}
-use Rattle.tree.specs.Tree.{answered, askedOf, ask, grow, grown, addresses, InTree}
+use Rattle.node.proofs.Settings.{sets-limits}
+use Rattle.tree.specs.Tree.{Request, request, Event, asking, setting, Tree, bareRoot, Record, standing, absent, recordOf, replaced, withChild}
+use Rattle.tree.specs.Tree.{answered, askedOf, settled, settingOf, ask, happen, grow, grown, addresses, InTree}
 use Rattle.tree.proofs.Sound.{Sound}
 use Rattle.tree.proofs.Trees.{inTree-recordOf, addressIn-recordOf, replaced-recordOf, addresses-replaced, recordOf-replaced}
 use Rattle.tree.proofs.Trees.{recordOf-replaced-other, inTree-left, inTree-right, inTree-append, inTree-single, inTree-only, recordOf-left}
@@ -186,7 +188,44 @@ module _ (t : Tree) (s : Sound t) (a : ℕ) (n : Node) (stands : recordOf a t �
     counted = λ b d m other j e i below. counted-after b d m other j (records b m e) (nodes d i) below;
   }
 
--- ---- requests
+-- ---- another record of the same address and counts
+
+module _ (t : Tree) (s : Sound t) (a : ℕ) (n m : Node) (stands : recordOf a t ≡ standing n)
+    (same : addressIn m ≡ a) (good : isGood m ≡ true) (counts : (kind : Kind) → count kind m ≡ count kind n) where
+  nodes-kept : (b : ℕ) → InTree b (replaced a m t) → InTree b t
+  nodes-kept b i = rw (addresses-replaced m same t) at i
+
+  -- a node's record is the one handed back, or the one that stood there
+  records-kept : (b : ℕ) (o : Node) → recordOf b (replaced a m t) ≡ standing o → ((b ≡ a) × (o ≡ m)) ⊎ (recordOf b t ≡ standing o)
+  records-kept b o e = go (ℕ-discrete a b)
+    where
+      go : Dec (a ≡ b) → ((b ≡ a) × (o ≡ m)) ⊎ (recordOf b t ≡ standing o)
+      go (yes q) = inl (sym q, cc (recordOf-replaced m same t (inTree-recordOf a n t stands)))
+      go (no ne) = inr (sym (recordOf-replaced-other m same ne t) ∙ e)
+
+  -- so for every record there is one that stood there, of the same counts
+  stood : (b : ℕ) (o : Node) → recordOf b (replaced a m t) ≡ standing o
+      → (old : Node) × (recordOf b t ≡ standing old) × ((kind : Kind) → count kind o ≡ count kind old)
+  stood b o e =
+      ⊎-elim (λ (q : (b ≡ a) × (o ≡ m)). (n, rw (q .0) stands, λ kind. rw (q .1) (counts kind))) (λ old. (o, old, λ kind. refl)) (records-kept b o e)
+
+  pub sound-replaced : Sound (replaced a m t)
+  sound-replaced = record {
+    rooted = rw (addresses-replaced m same t) (s .rooted);
+    differ = rw (addresses-replaced m same t) (s .differ);
+    address = λ b i. s .address b (nodes-kept b i);
+    good = λ b o e. ⊎-elim (λ (q : (b ≡ a) × (o ≡ m)). rw (q .1) good) (s .good b o) (records-kept b o e);
+    parents = λ b i ne. rw (addresses-replaced m same t) (s .parents b (nodes-kept b i) ne);
+    given = λ b o kind i e l.
+        let (old, there, same-counts) = stood b o e in
+        let (d, j, cut) = s .given b old kind i there (omega (arith, same-counts kind)) in
+        (d, rw (addresses-replaced m same t) j, cut);
+    counted = λ b d o kind i e j below.
+        let (old, there, same-counts) = stood b o e in
+        omega (arith, same-counts kind, s .counted b d old kind i there (nodes-kept d j) below);
+  }
+
+-- ---- requests and settings
 
 -- a refused one changes nothing
 pub answered-refused : (t : Tree) (a : ℕ) (n : Node) → recordOf a t ≡ standing n → (k : ℕ) → answered a (refuseChild (suc k) n) t .tree ≡ t
@@ -208,11 +247,22 @@ sound-ask t (request a kind) s = go (recordOf a t) refl
     go (standing n) e = unfold askedOf in sound-answered t s a n e kind
     go absent e = unfold askedOf in s
 
-pub sound-grow : (t : Tree) (rs : List Request) → Sound t → Sound (grow childOf t rs .tree)
+pub sound-happen : (t : Tree) (e : Event) → Sound t → Sound (happen childOf setLimit t e .tree)
+unfolding happen
+sound-happen t (asking r) s = sound-ask t r s
+sound-happen t (setting a kind k) s = go (recordOf a t) refl
+  where
+    go : (x : Record) → recordOf a t ≡ x → Sound (settingOf setLimit x a kind k t .tree)
+    go (standing n) e = unfold settingOf settled in
+        sound-replaced t s a n (setLimit n kind k .node) e (sets-limits .keepsAddress n kind k ∙ addressIn-recordOf a n t e)
+        (sets-limits .keepsGood n kind k (s .good a n e)) (sets-limits .keepsCounts n kind k)
+    go absent e = unfold settingOf in s
+
+pub sound-grow : (t : Tree) (es : List Event) → Sound t → Sound (grow childOf setLimit t es .tree)
 unfolding grow
 sound-grow t [] s = s
-sound-grow t (r ∷ rs) s = sound-grow (ask childOf t r .tree) rs (sound-ask t r s)
+sound-grow t (e ∷ es) s = sound-grow (happen childOf setLimit t e .tree) es (sound-happen t e s)
 
-pub sound-grown : (rs : List Request) → Sound (grown childOf rs)
+pub sound-grown : (es : List Event) → Sound (grown childOf setLimit es)
 unfolding grown
-sound-grown rs = sound-grow bareRoot rs sound-bareRoot
+sound-grown es = sound-grow bareRoot es sound-bareRoot

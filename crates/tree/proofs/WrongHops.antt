@@ -9,22 +9,21 @@ use native.Mathlib.Omega.{arith}
 use borrow.Author.Tests.{eq-eqb}
 use lib.Dec.{lit<}
 use Rattle.address.specs.declared.Kind.the-variants.{Router as router, Host as host}
-use Rattle.address.specs.Bits.{bits, bitsIn, lastBit, digit, number, numberFrom}
-use Rattle.address.specs.Steps.{stepBits, lastOf, steps, stepsOf, cut, lastStep, addressOf, spelled}
-use Rattle.address.specs.Address.{bitLength, endsInOne, isHost, above, parent}
-use Rattle.search.specs.Search.{lookedAt, isPrefix, sameBit, kindLooked, indexLooked}
+use Rattle.address.specs.Steps.{steps, stepsOf, cut, lastStep, addressOf, spelled}
+use Rattle.address.specs.Address.{above, parent}
 use Rattle.address.specs.Numbers.{IsAddress}
 use Rattle.header.specs.Header.{header, reading, HeaderAnswer}
 use Rattle.header.proofs.Demand2.{reading-header}
 use Rattle.node.specs.declared.Node.{Node}
-use Rattle.node.specs.Node.{fresh, count, raised, isGood, childBits, childOf}
+use Rattle.node.specs.Node.{fresh, raised, isGood, childOf, setLimit}
 use Rattle.forward.specs.Forward.{nextHop, rules, toward}
 use Rattle.packet.specs.Packet.{packetHop}
-use Rattle.tree.specs.Tree.{Request, request, Tree, bareRoot, recordOf, replaced, withChild, answered, askedOf, ask, grow, grown, addresses, InTree, standing, Linked, Walk, here, along}
+use Rattle.tree.specs.Tree.{request, Event, asking, Tree, recordOf, grown, InTree, standing, Linked, Walk, here, along}
 use Rattle.route.specs.Path.{path, pathOf, turn, isAncestorOrSelf, sameSteps, deeper}
 use Rattle.tree.specs.Way.{Fate, deliveredTo, stoppedWith, passedTo, fate, deliveredAt, stoppedAt, lostAt, delivered, stopped, lost, onward}
 use Rattle.tree.specs.Demand3.{Demand3, Arrives}
 use Rattle.tree.specs.WrongHops.{AddressRule, hopBy, rulesBy, rightParts, refusesEverything, parentToAll, leaps, namesNobody, hostKeeps, hostDelivers, rootAsHost, lowBits, lookedShort, beforeLastBit, oneCount}
+use Rattle.tree.proofs.Opened.{trees-opened, hops-opened}
 use Rattle.tree.proofs.Ways.{way-passed}
 use Rattle.tree.proofs.Forwarding.{packets}
 
@@ -50,16 +49,8 @@ hopBy-header rule n {d} good a =
 
 -- whoever unfolds `opened` unfolds all that the trees and the answers below are computed by
 
-addresses-opened : Unit {0}
-unfolding bits bitsIn lastBit digit number numberFrom bitLength endsInOne isHost stepBits lastOf steps stepsOf cut lastStep addressOf spelled above parent
-addresses-opened = tt
-
-trees-opened : Unit {0}
-unfolding fresh count raised isGood childBits childOf bareRoot recordOf replaced withChild answered askedOf ask grow grown addresses
-trees-opened = tt
-
 opened : Unit {0}
-unfolding addresses-opened trees-opened isPrefix sameBit lookedAt kindLooked indexLooked toward rules rulesBy fate
+unfolding trees-opened hops-opened steps stepsOf cut lastStep addressOf spelled above parent rulesBy
 opened = tt
 
 address : (k : ℕ) → k < 8 → IsAddress (suc k)
@@ -70,13 +61,13 @@ not-cons other out i = ⊎-elim other out (List·Memᴰ·cases-cons i)
 
 -- ---- what arrival excludes
 
-module _ (rule : AddressRule) (claim : (rs : List Request) → Demand3 childOf (hopBy rule) rs) (rs : List Request) {d : ℕ} (b : IsAddress d) where
+module _ (rule : AddressRule) (claim : (rs : List Event) → Demand3 childOf setLimit (hopBy rule) rs) (rs : List Event) {d : ℕ} (b : IsAddress d) where
   -- the header of a node d, at a node a
-  module _ {a : ℕ} (i : InTree a (grown childOf rs)) (j : InTree d (grown childOf rs)) where
-    arrives : Arrives (hopBy rule) (grown childOf rs) (header d ++ []) a d
+  module _ {a : ℕ} (i : InTree a (grown childOf setLimit rs)) (j : InTree d (grown childOf setLimit rs)) where
+    arrives : Arrives (hopBy rule) (grown childOf setLimit rs) (header d ++ []) a d
     arrives = claim rs .arrival a d (header d ++ []) i j (packets d [] b tt)
 
-    module _ {n : Node} (r : recordOf a (grown childOf rs) ≡ standing n) (good : isGood n ≡ true) where
+    module _ {n : Node} (r : recordOf a (grown childOf setLimit rs) ≡ standing n) (good : isGood n ≡ true) where
       answers : {f : Fate} → fate (rule n d) ≡ f → fate (hopBy rule n (header d ++ [])) ≡ f
       answers f = ap fate (hopBy-header rule n good b) ∙ f
 
@@ -86,7 +77,7 @@ module _ (rule : AddressRule) (claim : (rs : List Request) → Demand3 childOf (
           let z : _≡_ {A = ℕ} 0 1 = cc in
           omega arith
 
-      never-lost : {x : ℕ} → fate (rule n d) ≡ passedTo x → (InTree x (grown childOf rs) → ⊥) → ⊥
+      never-lost : {x : ℕ} → fate (rule n d) ≡ passedTo x → (InTree x (grown childOf setLimit rs) → ⊥) → ⊥
       never-lost f out =
           let same = arrives .theWay .only (a ∷ []) (lostAt a) (lost r (answers f) out) in
           let z : _≡_ {A = ℕ} 0 1 = cc in
@@ -105,18 +96,18 @@ module _ (rule : AddressRule) (claim : (rs : List Request) → Demand3 childOf (
 -- ---- impostors
 
 -- 1 to itself: it stops
-pub refusesEverything-refuted : ((rs : List Request) → Demand3 childOf refusesEverything rs) → ⊥
+pub refusesEverything-refuted : ((rs : List Event) → Demand3 childOf setLimit refusesEverything rs) → ⊥
 unfolding refusesEverything opened
 refusesEverything-refuted claim = never-stopped _ claim [] (address 0 (lit< tt)) (first refl) (first refl) refl refl refl
 
 -- 1 to itself: it is lost, since the root has no parent
-pub parentToAll-refuted : ((rs : List Request) → Demand3 childOf parentToAll rs) → ⊥
+pub parentToAll-refuted : ((rs : List Event) → Demand3 childOf setLimit parentToAll rs) → ⊥
 unfolding parentToAll opened
 parentToAll-refuted claim =
     never-lost _ claim [] (address 0 (lit< tt)) (first refl) (first refl) refl refl refl (not-cons (λ e. omega arith) List·Memᴰ·not-nil)
 
 -- 1 to itself: it is delivered, but in nobody's name
-pub namesNobody-refuted : ((rs : List Request) → Demand3 childOf namesNobody rs) → ⊥
+pub namesNobody-refuted : ((rs : List Event) → Demand3 childOf setLimit namesNobody rs) → ⊥
 unfolding namesNobody opened
 namesNobody-refuted claim = never-misnamed _ claim [] (address 0 (lit< tt)) (first refl) (first refl) refl refl refl (λ e. omega arith)
 
@@ -126,12 +117,12 @@ walk-link (along l (here i)) = l
 walk-link (along l (along k w)) = l
 
 -- 1 to 100 in 1, 10, 100: its way is 1, 100, which no link joins
-pub leaps-refuted : ((rs : List Request) → Demand3 childOf leaps rs) → ⊥
+pub leaps-refuted : ((rs : List Event) → Demand3 childOf setLimit leaps rs) → ⊥
 unfolding leaps opened
 leaps-refuted claim =
-    let rs = request 1 router ∷ request 2 router ∷ [] in
+    let rs = asking (request 1 router) ∷ asking (request 2 router) ∷ [] in
     let b = address 3 (lit< tt) in
-    let j : InTree 4 (grown childOf rs) = later (later (first refl)) in
+    let j : InTree 4 (grown childOf setLimit rs) = later (later (first refl)) in
     let goes = arrives _ claim rs b (first refl) j in
     let end = delivered refl (ap fate (hopBy-header _ (fresh 4) refl b)) in
     let way = onward refl (ap fate (hopBy-header _ (raised router (fresh 1)) refl b)) j end in
@@ -141,38 +132,38 @@ leaps-refuted claim =
 -- ---- slips
 
 -- 11 to 110 in 1, 10, 11, 110: it stops at 11
-pub hostKeeps-refuted : ((rs : List Request) → Demand3 childOf hostKeeps rs) → ⊥
+pub hostKeeps-refuted : ((rs : List Event) → Demand3 childOf setLimit hostKeeps rs) → ⊥
 unfolding hostKeeps opened
 hostKeeps-refuted claim =
-    never-stopped _ claim (request 1 router ∷ request 1 host ∷ request 1 router ∷ []) (address 5 (lit< tt))
+    never-stopped _ claim (asking (request 1 router) ∷ asking (request 1 host) ∷ asking (request 1 router) ∷ []) (address 5 (lit< tt))
     (later (later (first refl))) (later (later (later (first refl)))) refl refl refl
 
 -- 11 to 110 in 1, 10, 11, 110: it is delivered at 11
-pub hostDelivers-refuted : ((rs : List Request) → Demand3 childOf hostDelivers rs) → ⊥
+pub hostDelivers-refuted : ((rs : List Event) → Demand3 childOf setLimit hostDelivers rs) → ⊥
 unfolding hostDelivers opened
 hostDelivers-refuted claim =
-    never-elsewhere _ claim (request 1 router ∷ request 1 host ∷ request 1 router ∷ []) (address 5 (lit< tt))
+    never-elsewhere _ claim (asking (request 1 router) ∷ asking (request 1 host) ∷ asking (request 1 router) ∷ []) (address 5 (lit< tt))
     (later (later (first refl))) (later (later (later (first refl)))) refl refl refl (λ e. omega arith)
 
 -- 1 to 10: it is lost at 1
-pub rootAsHost-refuted : ((rs : List Request) → Demand3 childOf rootAsHost rs) → ⊥
+pub rootAsHost-refuted : ((rs : List Event) → Demand3 childOf setLimit rootAsHost rs) → ⊥
 unfolding rootAsHost opened
 rootAsHost-refuted claim =
-    never-lost _ claim (request 1 router ∷ []) (address 1 (lit< tt)) (first refl) (later (first refl)) refl refl refl
+    never-lost _ claim (asking (request 1 router) ∷ []) (address 1 (lit< tt)) (first refl) (later (first refl)) refl refl refl
     (not-cons (λ e. omega arith) (not-cons (λ e. omega arith) List·Memᴰ·not-nil))
 
 -- 1 to 10: it is lost at 1
-pub lowBits-refuted : ((rs : List Request) → Demand3 childOf lowBits rs) → ⊥
+pub lowBits-refuted : ((rs : List Event) → Demand3 childOf setLimit lowBits rs) → ⊥
 unfolding lowBits opened
 lowBits-refuted claim =
-    never-lost _ claim (request 1 router ∷ []) (address 1 (lit< tt)) (first refl) (later (first refl)) refl refl refl
+    never-lost _ claim (asking (request 1 router) ∷ []) (address 1 (lit< tt)) (first refl) (later (first refl)) refl refl refl
     (not-cons (λ e. omega arith) (not-cons (λ e. omega arith) List·Memᴰ·not-nil))
 
 -- 1 to 111 in 1, 11, 111: 1 passes it to 11, and 11 passes it back
-pub beforeLastBit-refuted : ((rs : List Request) → Demand3 childOf beforeLastBit rs) → ⊥
+pub beforeLastBit-refuted : ((rs : List Event) → Demand3 childOf setLimit beforeLastBit rs) → ⊥
 unfolding beforeLastBit lookedShort opened path pathOf turn isAncestorOrSelf sameSteps deeper
 beforeLastBit-refuted claim =
-    let rs = request 1 host ∷ request 1 host ∷ [] in
+    let rs = asking (request 1 host) ∷ asking (request 1 host) ∷ [] in
     let b = address 6 (lit< tt) in
     let way = arrives _ claim rs b (first refl) (later (later (first refl))) .theWay .way in
     let (v, on, e) =
@@ -183,12 +174,12 @@ beforeLastBit-refuted claim =
     omega arith
 
 -- 1 for 11, which is not in 1, 10: it is lost at 1
-pub oneCount-refuted : ((rs : List Request) → Demand3 childOf oneCount rs) → ⊥
+pub oneCount-refuted : ((rs : List Event) → Demand3 childOf setLimit oneCount rs) → ⊥
 unfolding oneCount opened
 oneCount-refuted claim =
-    let rs = request 1 router ∷ [] in
+    let rs = asking (request 1 router) ∷ [] in
     let b = address 2 (lit< tt) in
-    let out : InTree 3 (grown childOf rs) → ⊥ = not-cons (λ e. omega arith) (not-cons (λ e. omega arith) List·Memᴰ·not-nil) in
+    let out : InTree 3 (grown childOf setLimit rs) → ⊥ = not-cons (λ e. omega arith) (not-cons (λ e. omega arith) List·Memᴰ·not-nil) in
     let (x, end) = claim rs .absence 1 3 (header 3 ++ []) (first refl) out (packets 3 [] b tt) in
     let same = end .theWay .only (1 ∷ []) (lostAt 1) (lost refl (ap fate (hopBy-header _ (raised router (fresh 1)) refl b)) out) in
     let z : _≡_ {A = ℕ} 0 1 = cc in

@@ -1,4 +1,5 @@
--- Demand 3, one claim about every list of requests, for any rule for a child and any rule for the next hop from octets.
+-- Demand 3, one claim about every list of requests and settings, for any rule for a child, any rule for a setting and any rule for the next hop
+-- from octets.
 use Prim.Native.Nat.{ℕ, _≤_}
 use mathlib.Core.Path.{_≡_}
 use mathlib.Core.List.{List, _∷_, _++_}
@@ -9,7 +10,7 @@ use Rattle.address.specs.Numbers.{IsAddress}
 use Rattle.octets.specs.Octets.{AreOctets}
 use Rattle.header.specs.Header.{header}
 use Rattle.route.specs.Path.{path, hops}
-use Rattle.tree.specs.Tree.{ChildRule, Request, Tree, grown, givenIn, addresses, InTree, AllDiffer, Walk}
+use Rattle.tree.specs.Tree.{ChildRule, SettingRule, Event, Tree, grown, givenIn, addresses, InTree, AllDiffer, Walk}
 use Rattle.tree.specs.Way.{HopRule, IsPacket, TheWay, deliveredAt, stoppedAt}
 
 -- "a packet for the second's address, started at the first and passed on by our rule, is delivered at the second. The nodes it meets are, in
@@ -38,15 +39,15 @@ pub record StopsAt (hop : HopRule) (t : Tree) (p : List ℕ) (a d x : ℕ) : Typ
   pub theWay : TheWay hop t p a (path a x) (stoppedAt 7 x)
 
 -- demand 3 for one list: its tree, with the records as they stand after it
-pub record Demand3 (child : ChildRule) (hop : HopRule) (rs : List Request) : Type 0 where
+pub record Demand3 (child : ChildRule) (set : SettingRule) (hop : HopRule) (es : List Event) : Type 0 where
   -- "every address's header, as written below, with any payload behind it, is one"
   pub packets : (d : ℕ) (payload : List ℕ) → IsAddress d → AreOctets payload → IsPacket (header d ++ payload) d
   -- "The tree after a list is the root and every address given in it without a refusal."
-  pub nodes : addresses (grown child rs) ≡ root ∷ givenIn child rs
+  pub nodes : addresses (grown child set es) ≡ root ∷ givenIn child set es
   -- "After it all addresses given differ, the root's among them."
-  pub differ : AllDiffer (root ∷ givenIn child rs)
+  pub differ : AllDiffer (root ∷ givenIn child set es)
   -- "Take any two nodes of that tree, or the same one twice"
-  pub arrival : (a d : ℕ) (p : List ℕ) → InTree a (grown child rs) → InTree d (grown child rs) → IsPacket p d → Arrives hop (grown child rs) p a d
+  pub arrival : (a d : ℕ) (p : List ℕ) → InTree a (grown child set es) → InTree d (grown child set es) → IsPacket p d → Arrives hop (grown child set es) p a d
   -- "A packet started at any node, for an address not in that tree"
-  pub absence : (a d : ℕ) (p : List ℕ) → InTree a (grown child rs) → (InTree d (grown child rs) → ⊥) → IsPacket p d
-      → (x : ℕ) × StopsAt hop (grown child rs) p a d x
+  pub absence : (a d : ℕ) (p : List ℕ) → InTree a (grown child set es) → (InTree d (grown child set es) → ⊥) → IsPacket p d
+      → (x : ℕ) × StopsAt hop (grown child set es) p a d x

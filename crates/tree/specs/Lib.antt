@@ -3,4 +3,5 @@ pub mod Tree
 pub mod Way
 pub mod Demand3
 pub mod WrongChildren
+pub mod WrongSettings
 pub mod WrongHops

@@ -9,7 +9,7 @@ use Rattle.address.specs.Bits.{bits, number, longest}
 use Rattle.address.specs.Steps.{child, stepBits}
 use Rattle.address.specs.Address.{bitLength, isHost}
 use Rattle.address.specs.declared.Kind.the-variants.{Router}
-use Rattle.node.specs.Node.{addressIn, addressAt, count, raised, isGood, childBits, refuseChild, childOf}
+use Rattle.node.specs.Node.{addressIn, addressAt, count, raised, limit, isGood, childBits, refuseChild, childOf}
 use Rattle.tree.specs.Tree.{ChildRule}
 
 -- "One that hands every child the same address": 10, whichever node is asked; it refuses and counts as the right rule does
@@ -23,6 +23,7 @@ unfoldable pub sharedCount : ChildRule
 sharedCount n kind =
     if not (isGood n) then refuseChild 1 n
     else if isHost (addressIn n) then refuseChild 2 n
+    else if eqb (count Router n) (limit Router n) then refuseChild 15 n
     else if ltb longest (length (bits (addressIn n) ++ stepBits (child kind (count Router n)))) then refuseChild 3 n
     else record {
       node = raised Router n;
@@ -35,5 +36,6 @@ unfoldable pub limitOnParent : ChildRule
 limitOnParent n kind =
     if not (isGood n) then refuseChild 1 n
     else if isHost (addressIn n) then refuseChild 2 n
+    else if eqb (count kind n) (limit kind n) then refuseChild 15 n
     else if ltb longest (bitLength (addressIn n)) then refuseChild 3 n
     else record { node = raised kind n; child = addressAt (number (childBits n kind)); refusal = 0 }
