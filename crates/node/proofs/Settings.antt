@@ -39,32 +39,51 @@ limit-withLimit P Router k n new old Host = old Host
 limit-withLimit P Host k n new old Router = old Router
 limit-withLimit P Host k n new old Host = new
 
--- a good record with a limit that may be set
+-- a record with the address and the counts of a good one, and limits that they keep to
 
-module _ (n : Node) (kind : Kind) (k : ℕ) (may : MaySet n kind k) where
-  fits : FitsLimits (withLimit kind k n)
-  fits = record {
-    most = limit-withLimit (λ (other : Kind) (l : ℕ). l ≤ noCap) kind k n (may .most) (limit-most n (may .good));
-    kept = λ other.
-        rw (count-withLimit kind k n other)
-        (limit-withLimit (λ (other : Kind) (l : ℕ). count other n ≤ l) kind k n (may .enough) (count-kept n (may .good)) other);
-  }
+pub good-alike : (n m : Node) → isGood n ≡ true → addressIn m ≡ addressIn n → ((kind : Kind) → count kind m ≡ count kind n) → FitsLimits m
+    → isGood m ≡ true
+good-alike n m good same counts fits = go (isHost (addressIn n)) refl
+  where
+    some : addressIn m ≡ 0 → ⊥
+    some z = omega (arith, some-good n good)
 
-  some : addressIn (withLimit kind k n) ≡ 0 → ⊥
-  some z = omega (arith, addressIn-withLimit kind k n, some-good n (may .good))
+    go : (h : Bool) → isHost (addressIn n) ≡ h → isGood m ≡ true
+    go true h = isGood-host m fits some (ap isHost same ∙ h) (λ kind. counts kind ∙ count-host n good h kind)
+    go false h =
+        isGood-counts m fits some (ap isHost same ∙ h)
+        (λ kind. subst (λ (a : ℕ). count kind m ≤ longest - bitLength a) (sym same) (omega (arith, counts kind, count-le n good h kind)))
 
-  good-set : isGood (withLimit kind k n) ≡ true
-  good-set = go (isHost (addressIn n)) refl
-    where
-      same : isHost (addressIn (withLimit kind k n)) ≡ isHost (addressIn n)
-      same = ap isHost (addressIn-withLimit kind k n)
+good-set : (n : Node) (kind : Kind) (k : ℕ) → MaySet n kind k → isGood (withLimit kind k n) ≡ true
+good-set n kind k may = good-alike n (withLimit kind k n) (may .good) (addressIn-withLimit kind k n) (count-withLimit kind k n) (record {
+  most = limit-withLimit (λ (other : Kind) (l : ℕ). l ≤ noCap) kind k n (may .most) (limit-most n (may .good));
+  kept = λ other.
+      rw (count-withLimit kind k n other)
+      (limit-withLimit (λ (other : Kind) (l : ℕ). count other n ≤ l) kind k n (may .enough) (count-kept n (may .good)) other);
+})
 
-      go : (h : Bool) → isHost (addressIn n) ≡ h → isGood (withLimit kind k n) ≡ true
-      go true h = isGood-host (withLimit kind k n) fits some (same ∙ h) (λ other. count-withLimit kind k n other ∙ count-host n (may .good) h other)
-      go false h =
-          isGood-counts (withLimit kind k n) fits some (same ∙ h)
-          (λ other. subst (λ (a : ℕ). count other (withLimit kind k n) ≤ longest - bitLength a) (sym (addressIn-withLimit kind k n))
-          (omega (arith, count-withLimit kind k n other, count-le n (may .good) h other)))
+-- a record whose limits are taken away
+
+module _ (n : Node) where
+  pub addressIn-lifted : addressIn (withLimits noCap noCap n) ≡ addressIn n
+  unfolding withLimits
+  addressIn-lifted = refl
+
+  pub count-lifted : (kind : Kind) → count kind (withLimits noCap noCap n) ≡ count kind n
+  unfolding count withLimits
+  count-lifted Router = refl
+  count-lifted Host = refl
+
+  limit-lifted : (kind : Kind) → limit kind (withLimits noCap noCap n) ≡ noCap
+  unfolding limit withLimits
+  limit-lifted Router = refl
+  limit-lifted Host = refl
+
+  pub good-lifted : isGood n ≡ true → isGood (withLimits noCap noCap n) ≡ true
+  good-lifted good = good-alike n (withLimits noCap noCap n) good addressIn-lifted count-lifted (record {
+    most = λ kind. omega (arith, limit-lifted kind);
+    kept = λ kind. omega (arith, limit-lifted kind, count-lifted kind, count-kept n good kind, limit-most n good kind);
+  })
 
 -- the setting
 

@@ -12,7 +12,7 @@ use Rattle.node.specs.Node.{childOf, setLimit}
 use Rattle.node.specs.Refusals.{ChildRefusals, SettingRefusals}
 use Rattle.node.proofs.Opened.{records-opened}
 use Rattle.node.specs.WrongRules.{givesChild, refusesAll, rootIsHost, hostFirst, oneTooMany, shortOfLimit, addressBeside}
-use Rattle.node.specs.WrongRules.{childBy, pastLimit, limitless, oneLimit, oneMore, limitLast, limitFirst}
+use Rattle.node.specs.WrongRules.{childBy, pastLimit, limitless, liftsLimits, oneLimit, oneMore, limitLast, limitFirst}
 use Rattle.node.specs.WrongRules.{settingBy, allowedLimit, setsNothing, setsBelow, setsAbove, setsCut, setsBoth, mendsRecord, other, setsOther}
 use Rattle.node.proofs.RefusalLaws.{child-refusals, setting-refusals}
 
@@ -65,6 +65,10 @@ pastLimit-refuted claim = omega (arith, same-number pastLimit claim (withLimits 
 pub limitless-refuted : ChildRefusals limitless → ⊥
 unfolding opened limitless
 limitless-refuted claim = omega (arith, same-number limitless claim (withLimits 65 64 (fresh root)) Host)
+
+pub liftsLimits-refuted : ChildRefusals liftsLimits → ⊥
+unfolding opened liftsLimits
+liftsLimits-refuted claim = omega (arith, same-number liftsLimits claim (withLimits 0 0 (fresh root)) Router)
 
 -- the root that may give no router, asked for a host
 pub oneLimit-refuted : ChildRefusals oneLimit → ⊥

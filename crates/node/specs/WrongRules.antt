@@ -71,6 +71,10 @@ pastLimit = childBy isGood (λ kind n. false)
 unfoldable pub limitless : Node → Kind → Given
 limitless = childBy fitsAddress (λ kind n. false)
 
+-- a limit is taken away, whatever was set
+unfoldable pub liftsLimits : Node → Kind → Given
+liftsLimits n kind = childOf (withLimits noCap noCap n) kind
+
 -- one limit for both kinds: that on routers
 unfoldable pub oneLimit : Node → Kind → Given
 oneLimit = childBy isGood (λ kind n. eqb (count kind n) (limit Router n))

@@ -9,11 +9,13 @@ use lib.Dec.{eqb}
 use Rattle.address.specs.Choice.{if_then_else_}
 use Rattle.address.specs.Bits.{root}
 use Rattle.node.specs.Node.{addressIn, fresh, childOf, setLimit}
+use Rattle.address.specs.declared.Kind.{Kind}
+use Rattle.node.specs.declared.Node.{Node}
 use Rattle.node.specs.declared.Given.{Given}
 use Rattle.node.proofs.Children.{addressIn-fresh}
 use Rattle.node.proofs.GivenChildren.{gives-children}
 use Rattle.node.proofs.Settings.{sets-limits}
-use Rattle.tree.specs.Tree.{Request, request, Event, asking, setting, Tree, bareRoot, Record, standing, absent, recordOf, replaced, withChild, answered, askedOf}
+use Rattle.tree.specs.Tree.{ChildRule, SettingRule, Request, request, Event, asking, setting, Tree, bareRoot, Record, standing, absent, recordOf, replaced, withChild, answered, askedOf}
 use Rattle.tree.specs.Tree.{settled, settingOf, ask, happen, grow, grown, addresses, Reply, replied, limited, nobody, givenBy, givenIn}
 use Rattle.tree.proofs.Trees.{addresses-replaced, addressIn-recordOf}
 
@@ -35,23 +37,24 @@ addresses-withChild g t = go (g .refusal)
         ∙ ap (λ (a : ℕ). map addressIn t ++ (a ∷ [])) (addressIn-fresh (g .child .number))
     go (suc k) = rw (ne-eqb (suc k) 0 (λ z. omega arith)) (sym (append-nil (addresses t)))
 
-pub addresses-ask : (t : Tree) (r : Request) → addresses (ask childOf t r .tree) ≡ addresses t ++ givenBy (ask childOf t r .replies)
+-- a rule for a child, or for a setting, that hands back a record of the same address
+
+pub addresses-asked : (child : ChildRule) → ((n : Node) (kind : Kind) → addressIn (child n kind .node) ≡ addressIn n)
+    → (t : Tree) (r : Request) → addresses (ask child t r .tree) ≡ addresses t ++ givenBy (ask child t r .replies)
 unfolding ask
-addresses-ask t (request a kind) = go (recordOf a t) refl
+addresses-asked child keeps t (request a kind) = go (recordOf a t) refl
   where
     go : (x : Record) → recordOf a t ≡ x
-        → addresses (askedOf childOf x a kind t .tree) ≡ addresses t ++ givenBy (askedOf childOf x a kind t .replies)
+        → addresses (askedOf child x a kind t .tree) ≡ addresses t ++ givenBy (askedOf child x a kind t .replies)
     go (standing n) e = unfold askedOf answered in
-        addresses-withChild (childOf n kind) (replaced a (childOf n kind .node) t)
-        ∙ ap (λ (l : List ℕ). l ++ givenBy (replied (childOf n kind .refusal) (childOf n kind .child .number) ∷ []))
-        (addresses-replaced (childOf n kind .node) (gives-children .keepsAddress n kind ∙ addressIn-recordOf a n t e) t)
+        addresses-withChild (child n kind) (replaced a (child n kind .node) t)
+        ∙ ap (λ (l : List ℕ). l ++ givenBy (replied (child n kind .refusal) (child n kind .child .number) ∷ []))
+        (addresses-replaced (child n kind .node) (keeps n kind ∙ addressIn-recordOf a n t e) t)
     go absent e = unfold askedOf givenBy in sym (append-nil (addresses t))
 
-pub addresses-happen : (t : Tree) (e : Event)
-    → addresses (happen childOf setLimit t e .tree) ≡ addresses t ++ givenBy (happen childOf setLimit t e .replies)
-unfolding happen
-addresses-happen t (asking r) = addresses-ask t r
-addresses-happen t (setting a kind k) = go (recordOf a t) refl
+pub addresses-set : (t : Tree) (a : ℕ) (kind : Kind) (k : ℕ)
+    → addresses (settingOf setLimit (recordOf a t) a kind k t .tree) ≡ addresses t ++ givenBy (settingOf setLimit (recordOf a t) a kind k t .replies)
+addresses-set t a kind k = go (recordOf a t) refl
   where
     go : (x : Record) → recordOf a t ≡ x
         → addresses (settingOf setLimit x a kind k t .tree) ≡ addresses t ++ givenBy (settingOf setLimit x a kind k t .replies)
@@ -60,16 +63,36 @@ addresses-happen t (setting a kind k) = go (recordOf a t) refl
         ∙ sym (append-nil (addresses t))
     go absent e = unfold settingOf givenBy in sym (append-nil (addresses t))
 
-pub addresses-grow : (t : Tree) (es : List Event) → addresses (grow childOf setLimit t es .tree) ≡ addresses t ++ givenBy (grow childOf setLimit t es .replies)
-unfolding grow
-addresses-grow t [] = unfold givenBy in sym (append-nil (addresses t))
-addresses-grow t (e ∷ es) =
-    addresses-grow (happen childOf setLimit t e .tree) es
-    ∙ ap (λ (l : List ℕ). l ++ givenBy (grow childOf setLimit (happen childOf setLimit t e .tree) es .replies)) (addresses-happen t e)
-    ∙ append-assoc (addresses t) (givenBy (happen childOf setLimit t e .replies)) (givenBy (grow childOf setLimit (happen childOf setLimit t e .tree) es .replies))
-    ∙ ap (λ (l : List ℕ). addresses t ++ l) (sym (givenBy-append (happen childOf setLimit t e .replies) (grow childOf setLimit (happen childOf setLimit t e .tree) es .replies)))
+pub addresses-ask : (t : Tree) (r : Request) → addresses (ask childOf t r .tree) ≡ addresses t ++ givenBy (ask childOf t r .replies)
+addresses-ask = addresses-asked childOf (gives-children .keepsAddress)
+
+pub addresses-happen : (t : Tree) (e : Event)
+    → addresses (happen childOf setLimit t e .tree) ≡ addresses t ++ givenBy (happen childOf setLimit t e .replies)
+unfolding happen
+addresses-happen t (asking r) = addresses-ask t r
+addresses-happen t (setting a kind k) = addresses-set t a kind k
+
+-- rules that keep to this, event by event, do so in every list
+module _ (child : ChildRule) (set : SettingRule)
+    (each : (t : Tree) (e : Event) → addresses (happen child set t e .tree) ≡ addresses t ++ givenBy (happen child set t e .replies)) where
+  addresses-each : (t : Tree) (es : List Event) → addresses (grow child set t es .tree) ≡ addresses t ++ givenBy (grow child set t es .replies)
+  unfolding grow
+  addresses-each t [] = unfold givenBy in sym (append-nil (addresses t))
+  addresses-each t (e ∷ es) =
+      let after = happen child set t e in
+      addresses-each (after .tree) es
+      ∙ ap (λ (l : List ℕ). l ++ givenBy (grow child set (after .tree) es .replies)) (each t e)
+      ∙ append-assoc (addresses t) (givenBy (after .replies)) (givenBy (grow child set (after .tree) es .replies))
+      ∙ ap (λ (l : List ℕ). addresses t ++ l) (sym (givenBy-append (after .replies) (grow child set (after .tree) es .replies)))
+
+  pub nodes-each : (es : List Event) → addresses (grown child set es) ≡ root ∷ givenIn child set es
+  unfolding grown givenIn bareRoot addresses
+  nodes-each es =
+      addresses-each bareRoot es ∙ ap (λ (a : ℕ). a ∷ givenBy (grow child set bareRoot es .replies)) (addressIn-fresh root)
+
+pub addresses-grow : (t : Tree) (es : List Event)
+    → addresses (grow childOf setLimit t es .tree) ≡ addresses t ++ givenBy (grow childOf setLimit t es .replies)
+addresses-grow = addresses-each childOf setLimit addresses-happen
 
 pub addresses-grown : (es : List Event) → addresses (grown childOf setLimit es) ≡ root ∷ givenIn childOf setLimit es
-unfolding grown givenIn bareRoot addresses
-addresses-grown es =
-    addresses-grow bareRoot es ∙ ap (λ (a : ℕ). a ∷ givenBy (grow childOf setLimit bareRoot es .replies)) (addressIn-fresh root)
+addresses-grown = nodes-each childOf setLimit addresses-happen

@@ -22,7 +22,7 @@ use Rattle.node.specs.declared.Node.{Node}
 use Rattle.node.proofs.Children.{count-le-raised, lt-raised, addressIn-fresh, count-fresh, addressIn-raised, count-raised, isGood-fresh}
 use Rattle.node.proofs.Children.{MayGive, childOf-cases, childOf-given, isGood-raised, steps-child, address-child, parent-child}
 use Rattle.node.proofs.Settings.{sets-limits}
-use Rattle.tree.specs.Tree.{Request, request, Event, asking, setting, Tree, bareRoot, Record, standing, absent, recordOf, replaced, withChild}
+use Rattle.tree.specs.Tree.{ChildRule, SettingRule, Request, request, Event, asking, setting, Tree, bareRoot, Record, standing, absent, recordOf, replaced, withChild}
 use Rattle.tree.specs.Tree.{answered, askedOf, settled, settingOf, ask, happen, grow, grown, addresses, InTree}
 use Rattle.tree.proofs.Sound.{Sound}
 use Rattle.tree.proofs.Trees.{inTree-recordOf, addressIn-recordOf, replaced-recordOf, addresses-replaced, recordOf-replaced}
@@ -232,7 +232,7 @@ pub answered-refused : (t : Tree) (a : ℕ) (n : Node) → recordOf a t ≡ stan
 unfolding answered withChild refuseChild
 answered-refused t a n stands k = rw (ne-eqb (suc k) 0 (λ z. omega arith)) (replaced-recordOf a n t stands)
 
-sound-answered : (t : Tree) → Sound t → (a : ℕ) (n : Node) → recordOf a t ≡ standing n → (kind : Kind)
+pub sound-answered : (t : Tree) → Sound t → (a : ℕ) (n : Node) → recordOf a t ≡ standing n → (kind : Kind)
     → Sound (answered a (childOf n kind) t .tree)
 sound-answered t s a n stands kind =
     ⊎-elim (λ (may : MayGive n kind). rw (childOf-given may) (unfold answered withChild in sound-given t s a n stands kind may))
@@ -247,10 +247,8 @@ sound-ask t (request a kind) s = go (recordOf a t) refl
     go (standing n) e = unfold askedOf in sound-answered t s a n e kind
     go absent e = unfold askedOf in s
 
-pub sound-happen : (t : Tree) (e : Event) → Sound t → Sound (happen childOf setLimit t e .tree)
-unfolding happen
-sound-happen t (asking r) s = sound-ask t r s
-sound-happen t (setting a kind k) s = go (recordOf a t) refl
+pub sound-set : (t : Tree) (a : ℕ) (kind : Kind) (k : ℕ) → Sound t → Sound (settingOf setLimit (recordOf a t) a kind k t .tree)
+sound-set t a kind k s = go (recordOf a t) refl
   where
     go : (x : Record) → recordOf a t ≡ x → Sound (settingOf setLimit x a kind k t .tree)
     go (standing n) e = unfold settingOf settled in
@@ -258,11 +256,26 @@ sound-happen t (setting a kind k) s = go (recordOf a t) refl
         (sets-limits .keepsGood n kind k (s .good a n e)) (sets-limits .keepsCounts n kind k)
     go absent e = unfold settingOf in s
 
+pub sound-happen : (t : Tree) (e : Event) → Sound t → Sound (happen childOf setLimit t e .tree)
+unfolding happen
+sound-happen t (asking r) s = sound-ask t r s
+sound-happen t (setting a kind k) s = sound-set t a kind k s
+
+-- ---- lists
+
+-- rules that keep a tree sound, event by event, do so in every list
+module _ (child : ChildRule) (set : SettingRule) (each : (t : Tree) (e : Event) → Sound t → Sound (happen child set t e .tree)) where
+  sound-each : (t : Tree) (es : List Event) → Sound t → Sound (grow child set t es .tree)
+  unfolding grow
+  sound-each t [] s = s
+  sound-each t (e ∷ es) s = sound-each (happen child set t e .tree) es (each t e s)
+
+  pub sound-list : (es : List Event) → Sound (grown child set es)
+  unfolding grown
+  sound-list es = sound-each bareRoot es sound-bareRoot
+
 pub sound-grow : (t : Tree) (es : List Event) → Sound t → Sound (grow childOf setLimit t es .tree)
-unfolding grow
-sound-grow t [] s = s
-sound-grow t (e ∷ es) s = sound-grow (happen childOf setLimit t e .tree) es (sound-happen t e s)
+sound-grow = sound-each childOf setLimit sound-happen
 
 pub sound-grown : (es : List Event) → Sound (grown childOf setLimit es)
-unfolding grown
-sound-grown es = sound-grow bareRoot es sound-bareRoot
+sound-grown = sound-list childOf setLimit sound-happen

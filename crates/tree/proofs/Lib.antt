@@ -10,6 +10,7 @@ pub mod Walks
 pub mod Ways
 pub mod Forwarding
 pub mod Theorem
+pub mod Lifting
 pub mod Opened
 pub mod WrongChildren
 pub mod WrongSettings

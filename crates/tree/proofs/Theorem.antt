@@ -1,23 +1,27 @@
 -- Demand 3, for every list of requests and settings, at the rules that `Node::child`, `Node::set_limit` and `packet::next_hop` promise: a grown tree
 -- is sound, and a sound tree has arrival and absence. Assumes nothing.
-use mathlib.Core.Path.{subst}
-use mathlib.Core.List.{List}
+use mathlib.Core.Path.{_≡_, subst}
+use mathlib.Core.List.{List, _∷_}
+use Rattle.address.specs.Bits.{root}
 use Rattle.node.specs.Node.{childOf, setLimit}
 use Rattle.packet.specs.Packet.{packetHop}
-use Rattle.tree.specs.Tree.{Event, grown, AllDiffer}
+use Rattle.tree.specs.Tree.{ChildRule, SettingRule, Event, grown, givenIn, addresses, AllDiffer}
 use Rattle.tree.specs.Demand3.{Demand3}
 use Rattle.tree.proofs.Sound.{Sound}
 use Rattle.tree.proofs.Growth.{sound-grown}
 use Rattle.tree.proofs.Given.{addresses-grown}
 use Rattle.tree.proofs.Forwarding.{packets, arrival, absence}
 
+-- of any rules whose trees are sound and have the nodes given
+pub demand-3-of : (child : ChildRule) (set : SettingRule) (es : List Event) → Sound (grown child set es)
+    → addresses (grown child set es) ≡ root ∷ givenIn child set es → Demand3 child set packetHop es
+demand-3-of child set es sound nodes = record {
+  packets = packets;
+  nodes = nodes;
+  differ = subst AllDiffer nodes (sound .differ);
+  arrival = arrival (grown child set es) sound;
+  absence = absence (grown child set es) sound;
+}
+
 pub demand-3 : (es : List Event) → Demand3 childOf setLimit packetHop es
-demand-3 es =
-    let sound : Sound (grown childOf setLimit es) = sound-grown es in
-    record {
-      packets = packets;
-      nodes = addresses-grown es;
-      differ = subst AllDiffer (addresses-grown es) (sound .differ);
-      arrival = arrival (grown childOf setLimit es) sound;
-      absence = absence (grown childOf setLimit es) sound;
-    }
+demand-3 es = demand-3-of childOf setLimit es (sound-grown es) (addresses-grown es)

@@ -136,6 +136,17 @@ module _ {a : ℕ} (m : Node) (same : addressIn m ≡ a) where
       go (no further) (no out) rest =
           rw (replaced-further n t m further) (recordOf-further n (replaced a m t) out ∙ rest ∙ sym (recordOf-further n t out))
 
+-- the second of two records in one place
+pub replaced-twice : {a : ℕ} (m o : Node) → addressIn m ≡ a → (t : Tree) → replaced a o (replaced a m t) ≡ replaced a o t
+replaced-twice m o same [] = unfold replaced in refl
+replaced-twice {a} m o same (n ∷ t) = go (ℕ-discrete (addressIn n) a) (replaced-twice m o same t)
+  where
+    go : Dec (addressIn n ≡ a) → replaced a o (replaced a m t) ≡ replaced a o t → replaced a o (replaced a m (n ∷ t)) ≡ replaced a o (n ∷ t)
+    go (yes here) rest = rw (replaced-here n t m here) (replaced-here m t o same ∙ sym (replaced-here n t o here))
+    go (no further) rest =
+        rw (replaced-further n t m further)
+        (replaced-further n (replaced a m t) o further ∙ ap (λ (l : Tree). n ∷ l) rest ∙ sym (replaced-further n t o further))
+
 -- ---- one record more at the end
 
 pub addresses-append : (t s : Tree) → addresses (t ++ s) ≡ addresses t ++ addresses s
