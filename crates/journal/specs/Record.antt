@@ -25,7 +25,8 @@ children kind a (w ∷ ws) = if eqb (parent w) a && isKind kind w then suc (chil
 abbrev pub mostCounted : ℕ
 mostCounted = 255
 
--- found where the address is no zero and stands among the words; otherwise the record is all zeros
+-- found where the address is no zero and stands among the words, with no cap, since "The journal holds no limits, so recovered nodes have 64 and
+-- 64"; otherwise the record is one of address zero, which is bad
 unfoldable pub recordIn : List ℕ → ℕ → Record
 recordIn words a =
     if not (eqb a 0) && among a words

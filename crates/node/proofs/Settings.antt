@@ -1,20 +1,22 @@
 -- A setting leaves a record's address and counts, and a good record good: the limit that it sets is within 0 to 64 and not below the count.
 -- Assumes nothing.
-use Prim.Native.Nat.{ℕ, _-_, _≤_}
-use mathlib.Core.Path.{_≡_, refl, sym, ap, subst, _∙_}
+use Prim.Native.Nat.{ℕ, _-_, _^_, _≤_, _<_}
+use mathlib.Core.Path.{_≡_, refl, sym, ap, ap₂, subst, _∙_}
 use mathlib.Core.Bool.{Bool, true, false}
-use mathlib.Core.Logic.{⊎-elim}
+use mathlib.Core.Logic.{inl, inr, ⊎-elim, _↔_}
+use native.Mathlib.Decide.{ℕ-discrete}
 use native.Mathlib.Omega.{arith}
 use Rattle.address.specs.Address.{bitLength, isHost}
 use Rattle.address.specs.Bits.{longest}
+use Rattle.address.specs.Order.{First}
 use Rattle.address.specs.declared.Kind.{Kind}
 use Rattle.address.specs.declared.Kind.the-variants.{Router, Host}
-use Rattle.node.specs.Node.{Node, Limited, addressIn, noCap, count, limit, withLimits, withLimit, isGood, refuseSetting, setLimit}
-use Rattle.node.specs.Refusals.{FitsLimits}
+use Rattle.node.specs.Node.{Node, Given, Limited, addressIn, noCap, count, limit, withLimits, withLimit, isGood, refuseChild, childOf, refuseSetting, setLimit}
+use Rattle.node.specs.Refusals.{FitsAddress, inner, outer, FitsLimits, IsGood, childOrder, SettingRefusals}
 use Rattle.node.specs.Settings.{SetsLimits}
-use Rattle.node.proofs.ChildLaws.{some-good, limit-most, count-kept}
-use Rattle.node.proofs.Children.{count-host, count-le, isGood-host, isGood-counts}
-use Rattle.node.proofs.RefusalLaws.{MaySet, setLimit-cases}
+use Rattle.node.proofs.ChildLaws.{some-good, limit-most, count-kept, childOf-bad}
+use Rattle.node.proofs.Children.{address-good, count-host, count-le, below-noCap, isGood-host, isGood-counts}
+use Rattle.node.proofs.RefusalLaws.{MaySet, setLimit-cases, child-refusals, setting-refusals}
 
 -- the record with another limit
 
@@ -93,6 +95,49 @@ module _ (P : Node → Node → Type 0) where
   setLimit-node n kind k same set =
       ⊎-elim (λ done. subst (λ (l : Limited). P n (l .node)) (sym (done .1)) (set (done .0)))
       (λ refused. subst (λ (l : Limited). P n (l .node)) (sym (refused .1)) same) (setLimit-cases n kind k)
+
+-- the statement of the refusals allows one rule
+
+pub same-refusal : (rule : Node → Kind → ℕ → Limited) → SettingRefusals rule → (n : Node) (kind : Kind) (k : ℕ)
+    → rule n kind k .refusal ≡ setLimit n kind k .refusal
+same-refusal rule claim n kind k =
+    claim .given n kind k (setLimit n kind k .refusal) .1 (setting-refusals .given n kind k (setLimit n kind k .refusal) .0 refl)
+
+pub one-setting : (rule : Node → Kind → ℕ → Limited) → SettingRefusals rule → (n : Node) (kind : Kind) (k : ℕ) → rule n kind k ≡ setLimit n kind k
+one-setting rule claim n kind k =
+    ap₂ (λ (m : Node) (r : ℕ). record { node = m; refusal = r }) (go (ℕ-discrete (setLimit n kind k .refusal) 0)) (same-refusal rule claim n kind k)
+  where
+    go : Dec (setLimit n kind k .refusal ≡ 0) → rule n kind k .node ≡ setLimit n kind k .node
+    go (yes z) =
+        claim .without n kind k (same-refusal rule claim n kind k ∙ z) ∙ sym (setting-refusals .without n kind k z)
+    go (no h) =
+        claim .beside n kind k (λ z. h (sym (same-refusal rule claim n kind k) ∙ z)) ∙ sym (setting-refusals .beside n kind k h)
+
+-- "64 meaning no cap"
+
+pub no-cap-good : (n : Node) → limit Router n ≡ noCap → limit Host n ≡ noCap → IsGood n ↔ FitsAddress n
+no-cap-good n r h = (λ good. good .address, λ fits. record { address = fits; limits = record { most = most; kept = kept fits } })
+  where
+    most : (kind : Kind) → limit kind n ≤ noCap
+    most Router = omega arith
+    most Host = omega arith
+
+    kept : FitsAddress n → (kind : Kind) → count kind n ≤ limit kind n
+    kept (inner k f g) Router = unfold count in omega arith
+    kept (inner k f g) Host = unfold count in omega arith
+    kept (outer k f g) Router = unfold count in omega arith
+    kept (outer k f g) Host = unfold count in omega arith
+
+pub no-cap-never : (n : Node) (kind : Kind) → addressIn n < 2 ^ longest → limit kind n ≡ noCap → childOf n kind .refusal ≡ 15 → ⊥
+no-cap-never n kind fits free e = go (isGood n) refl (child-refusals .given n kind 15 .0 e)
+  where
+    go : (g : Bool) → isGood n ≡ g → First (childOrder n kind) 15 → ⊥
+    go true good (inr (some, inr (asked, inl (full, z)))) = below-noCap n good (address-good n good fits) kind free full
+    go true good (inl (bad, z)) = omega arith
+    go true good (inr (some, inl (host, z))) = omega arith
+    go true good (inr (some, inr (asked, inr (below, inl (long, z))))) = omega arith
+    go true good (inr (some, inr (asked, inr (below, inr (short, z))))) = omega arith
+    go false good f = unfold refuseChild in omega (arith, e, ap (λ (g : Given). g .refusal) (childOf-bad n kind good))
 
 pub sets-limits : SetsLimits
 sets-limits = record {

@@ -1,20 +1,20 @@
 -- Each wrong rule is refuted by its answer to one record: the right rule's number there is the only one that the statement allows.
 use mathlib.Core.Path.{_≡_, refl, ap}
-use Prim.Native.Nat.{ℕ}
 use native.Mathlib.Omega.{arith}
 use Rattle.address.specs.Bits.{lastBit, bitsIn, bits, digit, numberFrom, number, root}
 use Rattle.address.specs.Steps.{lastOf, stepBits}
 use Rattle.address.specs.Address.{bitLength, endsInOne, isHost}
 use Rattle.address.specs.declared.Kind.{Kind}
 use Rattle.address.specs.declared.Kind.the-variants.{Router, Host}
-use Rattle.node.specs.Node.{Node, Given, Limited, fresh, withCounts, limit, withLimits}
-use Rattle.node.specs.Node.{childOf, setLimit}
+use Rattle.node.specs.Node.{Node, Given, fresh, withCounts, limit, withLimits}
+use Rattle.node.specs.Node.{childOf}
 use Rattle.node.specs.Refusals.{ChildRefusals, SettingRefusals}
 use Rattle.node.proofs.Opened.{records-opened}
 use Rattle.node.specs.WrongRules.{givesChild, refusesAll, rootIsHost, hostFirst, oneTooMany, shortOfLimit, addressBeside}
 use Rattle.node.specs.WrongRules.{childBy, pastLimit, limitless, liftsLimits, oneLimit, oneMore, limitLast, limitFirst}
 use Rattle.node.specs.WrongRules.{settingBy, allowedLimit, setsNothing, setsBelow, setsAbove, setsCut, setsBoth, mendsRecord, other, setsOther}
-use Rattle.node.proofs.RefusalLaws.{child-refusals, setting-refusals}
+use Rattle.node.proofs.RefusalLaws.{child-refusals}
+use Rattle.node.proofs.Settings.{same-refusal}
 
 opened : Unit {0}
 unfolding lastBit bitsIn bits digit numberFrom number lastOf stepBits bitLength endsInOne isHost records-opened givesChild childBy settingBy allowedLimit
@@ -91,11 +91,6 @@ unfolding opened limitFirst
 limitFirst-refuted claim = omega (arith, same-number limitFirst claim (withLimits 0 0 (fresh 0b11)) Router)
 
 -- ---- settings
-
-same-refusal : (rule : Node → Kind → ℕ → Limited) → SettingRefusals rule → (n : Node) (kind : Kind) (k : ℕ)
-    → rule n kind k .refusal ≡ setLimit n kind k .refusal
-same-refusal rule claim n kind k =
-    claim .given n kind k (setLimit n kind k .refusal) .1 (setting-refusals .given n kind k (setLimit n kind k .refusal) .0 refl)
 
 pub setsNothing-refuted : SettingRefusals setsNothing → ⊥
 unfolding opened setsNothing
