@@ -3,3 +3,4 @@ mod Lines
 mod PlanLines
 mod JournalLines
 mod JournalCodeLines
+mod LimitLines

@@ -12,6 +12,7 @@ use lib.Dec.{lit≤}
 use lib.ListN.{length, drop}
 use lib.Seq.{drop-at}
 use Rattle.address.specs.Bits.{Bit, O, I, lastBit, bitsIn, bits, digit, numberFrom, number}
+use Rattle.address.specs.declared.Kind.{Kind}
 use Rattle.address.specs.declared.Kind.the-variants.{Router, Host}
 use Rattle.address.specs.Steps.{Step, child, lastStep, cut, stepsOf, steps, lastOf, stepBits, spelled, addressOf}
 use Rattle.address.specs.Order.{_then_}
@@ -49,8 +50,8 @@ use Rattle.ipv6.proofs.WrongWriters.{silent-form-writer-refuted, refusing-form-
 use Rattle.ipv6.proofs.WrongReaders.{surplus-form-reader-refuted}
 use Rattle.ipv6.proofs.Promises.{one-formReading, read-promise as form-read-promise, write-asks-nothing as form-write-asks-nothing, read-asks-nothing as form-read-asks-nothing}
 use Rattle.node.specs.declared.Node.{Node}
-use Rattle.node.specs.Node.{addressIn, fresh, count, raised, childOf}
-use Rattle.node.specs.Refusals.{IsGood, inner, outer}
+use Rattle.node.specs.Node.{addressIn, fresh, withCounts, count, raised, limit, childOf, setLimit}
+use Rattle.node.specs.Refusals.{FitsAddress, inner, outer, IsGood}
 use Rattle.node.proofs.ChildLaws.{isGood-zero}
 use Rattle.node.proofs.Children.{address-good, isGood-fresh}
 use Rattle.node.proofs.GivenChildren.{gives-children}
@@ -93,8 +94,9 @@ use Rattle.plan.proofs.WrongRules.{refusesAll-refuted as refusesAllPlans-refute
 use Rattle.plan.proofs.Promises.{read-asks-nothing as plan-read-asks-nothing}
 use Rattle.known.specs.Known.{table}
 use Rattle.known.proofs.Proved.{known-values}
-use Rattle.tree.specs.Tree.{Request, request, Tree, bareRoot, recordOf, replaced, answered, askedOf, Reply, ask, grow, grown, givenBy, givenIn, addresses as addressesOf, InTree, Walk, here, along}
-use Rattle.tree.proofs.Runs.{grown-snoc, ask-given, ask-refused, ask-nobody, replies-append}
+use Rattle.tree.specs.Tree.{request, Event, asking, setting, Tree, bareRoot, recordOf, replaced, answered, askedOf, settled, settingOf, Reply, ask, happen, grow, grown}
+use Rattle.tree.specs.Tree.{givenBy, givenIn, addresses as addressesOf, InTree, Walk, here, along}
+use Rattle.tree.proofs.Runs.{grown-snoc, ask-given, ask-refused, ask-nobody, set-standing, set-nobody, replies-append}
 use Rattle.tree.specs.Demand3.{Arrives}
 use Rattle.packet.specs.Packet.{packetHop}
 use Rattle.tree.proofs.Growth.{sound-grown}
@@ -166,22 +168,38 @@ addresses = record {
   firstOnes = λ n a. refl;
 }
 
-good-cases : (n : Node) → IsGood n → (
-    ((IsRoot (n .address .number) ⊎ IsRouter (n .address .number))
+fits-cases : (n : Node) → FitsAddress n
+    → ((IsRoot (n .address .number) ⊎ IsRouter (n .address .number))
     × (n .routers ≤ 64 - bitLength (n .address .number)) × (n .hosts ≤ 64 - bitLength (n .address .number)))
     ⊎ (IsHost (n .address .number) × (n .routers ≡ 0) × (n .hosts ≡ 0))
-    )
-good-cases n (inner k r h) = inl (k, r, h)
-good-cases n (outer k r h) = inr (k, r, h)
+fits-cases n (inner k r h) = inl (k, r, h)
+fits-cases n (outer k r h) = inr (k, r, h)
+
+-- of both kinds, and so of each
+each-kind : (P : Kind → Type 0) → P Router → P Host → (kind : Kind) → P kind
+each-kind P r h Router = r
+each-kind P r h Host = h
 
 pub children : Children
-unfolding fresh count raised
+unfolding fresh count raised withCounts limit
 children = record {
   goodRecords = good-records;
-  goodWritten = λ n. (good-cases n, λ h. ⊎-elim (λ i. inner (i .0) (i .1) (i .2)) (λ o. outer (o .0) (o .1) (o .2)) h);
+  goodWritten = λ n. (
+    λ good.
+        let limits = good .limits in
+        (fits-cases n (good .address), limits .most Router, limits .most Host, limits .kept Router, limits .kept Host),
+    λ (fits, router, host, routers, hosts). record {
+      address = ⊎-elim (λ i. inner (i .0) (i .1) (i .2)) (λ o. outer (o .0) (o .1) (o .2)) fits;
+      limits = record {
+        most = each-kind (λ (kind : Kind). limit kind n ≤ 64) router host;
+        kept = each-kind (λ (kind : Kind). count kind n ≤ limit kind n) routers hosts;
+      };
+    },
+  );
   badRecords = λ n. (λ h. h, λ h. h);
   ownAddress = λ n. refl;
   ownCount = λ n. (refl, refl);
+  ownLimit = λ n. (refl, refl);
   raisedRouters = λ n. refl;
   raisedHosts = λ n. refl;
   raisesOne = child-refusals .without;
@@ -192,6 +210,7 @@ children = record {
   freshOfZero = isGood-zero (fresh 0) refl;
   keepsGood = gives-children .keepsGood;
   keepsAddress = gives-children .keepsAddress;
+  keepsLimits = gives-children .keepsLimits;
 }
 
 -- ---- the next hop
@@ -329,9 +348,9 @@ forms = record {
 -- ---- demand 3
 
 -- a walk needs no packet, and the header of the second is one
-module _ (rs : List Request) {a d : ℕ} (i : InTree a (treeOf rs)) (j : InTree d (treeOf rs)) where
-  arrives : Arrives packetHop (treeOf rs) (header d ++ []) a d
-  arrives = demand-3 rs .arrival a d (header d ++ []) i j (demand-3 rs .packets d [] (sound-grown rs .address d j) tt)
+module _ (es : List Event) {a d : ℕ} (i : InTree a (treeOf es)) (j : InTree d (treeOf es)) where
+  arrives : Arrives packetHop (treeOf es) (header d ++ []) a d
+  arrives = demand-3 es .arrival a d (header d ++ []) i j (demand-3 es .packets d [] (sound-grown es .address d j) tt)
 
 -- hops are a length less one, and a walk has one node at least
 walk-some : {t : Tree} {a d : ℕ} {w : List ℕ} → Walk t a d w → 0 < length w
@@ -343,22 +362,26 @@ unfolding hops
 no-shorter v w h l = omega arith
 
 pub growth : Growth
-unfolding grown grow bareRoot
+unfolding grown grow bareRoot happen
 growth = record {
   bareRoot = refl;
-  given = λ rs a n kind e z. grown-snoc childOf rs (request a kind) ∙ ask-given childOf (treeOf rs) a kind n e z;
-  refused = λ rs a n kind e z. grown-snoc childOf rs (request a kind) ∙ ask-refused childOf (treeOf rs) a kind n e z;
-  nobody = λ rs a kind e. grown-snoc childOf rs (request a kind) ∙ ask-nobody childOf (treeOf rs) a kind e;
+  given = λ es a n kind e z. grown-snoc childOf setLimit es (asking (request a kind)) ∙ ask-given childOf (treeOf es) a kind n e z;
+  refused = λ es a n kind e z. grown-snoc childOf setLimit es (asking (request a kind)) ∙ ask-refused childOf (treeOf es) a kind n e z;
+  set = λ es a n kind k e. grown-snoc childOf setLimit es (setting a kind k) ∙ set-standing childOf setLimit (treeOf es) a kind k n e;
+  nobody = λ es a kind e. grown-snoc childOf setLimit es (asking (request a kind)) ∙ ask-nobody childOf (treeOf es) a kind e;
+  setAtNobody = λ es a kind k e. grown-snoc childOf setLimit es (setting a kind k) ∙ set-nobody childOf setLimit (treeOf es) a kind k e;
 }
 
-replied-last : (rs : List Request) (r : Request)
-    → grow childOf bareRoot (rs ++ (r ∷ [])) .replies ≡ grow childOf bareRoot rs .replies ++ ask childOf (treeOf rs) r .replies
+replied-last : (es : List Event) (e : Event)
+    → grow childOf setLimit bareRoot (es ++ (e ∷ [])) .replies
+    ≡ grow childOf setLimit bareRoot es .replies ++ happen childOf setLimit (treeOf es) e .replies
 unfolding grown grow
-replied-last rs r =
-    replies-append childOf bareRoot rs (r ∷ []) ∙ ap (λ (l : List Reply). grow childOf bareRoot rs .replies ++ l) (append-nil (ask childOf (treeOf rs) r .replies))
+replied-last es e =
+    replies-append childOf setLimit bareRoot es (e ∷ [])
+    ∙ ap (λ (l : List Reply). grow childOf setLimit bareRoot es .replies ++ l) (append-nil (happen childOf setLimit (treeOf es) e .replies))
 
 pub tree-words : TreeWords
-unfolding addressesOf recordOf replaced ask askedOf answered grow givenIn givenBy bareRoot
+unfolding addressesOf recordOf replaced happen ask askedOf answered settingOf settled grow givenIn givenBy bareRoot
 tree-words = record {
   inOrder = λ t. refl;
   recordOfNone = λ a. refl;
@@ -369,28 +392,31 @@ tree-words = record {
   replacedOther = λ a m n t e. rw (ne-eqb (addressIn n) a e);
   repliedStanding = λ t a kind n e. rw e;
   repliedAbsent = λ t a kind e. rw e;
+  limitedStanding = λ t a kind k n e. rw e;
+  limitedAbsent = λ t a kind k e. rw e;
   repliedNone = λ t. refl;
-  repliedOneByOne = λ t r rs. refl;
+  repliedOneByOne = λ t e es. refl;
   bare = refl;
   repliedLast = replied-last;
-  given = λ rs. refl;
+  given = λ es. refl;
   givenNone = refl;
   givenChild = λ a rs. refl;
   givenRefused = λ k a rs. rw add-one;
+  givenLimited = λ k rs. refl;
   givenNobody = λ rs. refl;
 }
 
 pub every-list : EveryList
 every-list = record {
-  nodes = λ rs. demand-3 rs .nodes;
-  allDiffer = λ rs. demand-3 rs .differ;
+  nodes = λ es. demand-3 es .nodes;
+  allDiffer = λ es. demand-3 es .differ;
   packets = demand-3 [] .packets;
-  arrives = λ rs a d p i j packet. demand-3 rs .arrival a d p i j packet .theWay;
-  overLinks = λ rs a d i j. arrives rs i j .overLinks;
-  noNodeTwice = λ rs a d i j. arrives rs i j .once;
-  noShorterWalk = λ rs a d w i j walk. no-shorter (path a d) w (arrives rs i j .shortest w walk) (walk-some walk);
-  absent = λ rs a d p i out packet.
-      let stops = demand-3 rs .absence a d p i out packet in (
+  arrives = λ es a d p i j packet. demand-3 es .arrival a d p i j packet .theWay;
+  overLinks = λ es a d i j. arrives es i j .overLinks;
+  noNodeTwice = λ es a d i j. arrives es i j .once;
+  noShorterWalk = λ es a d w i j walk. no-shorter (path a d) w (arrives es i j .shortest w walk) (walk-some walk);
+  absent = λ es a d p i out packet.
+      let stops = demand-3 es .absence a d p i out packet in (
         stops .0,
         record {
           ancestor = stops .1 .ancestor;

@@ -17,7 +17,7 @@ use Rattle.address.specs.declared.Kind.{Kind}
 use Rattle.address.specs.declared.Kind.the-variants.{Router, Host}
 use Rattle.search.specs.Search.{lookedAt, childEnd, firstBits, sameBit, isPrefix}
 use Rattle.search.specs.Exactly.{Stops}
-use Rattle.node.specs.Node.{addressIn, count, raised, isGood, fresh, childOf}
+use Rattle.node.specs.Node.{addressIn, count, raised, limit, isGood, fresh, childOf}
 use Rattle.node.specs.Refusals.{IsGood, IsBad}
 use Rattle.node.specs.declared.Node.{Node}
 
@@ -67,19 +67,22 @@ pub record Addresses : Type 0 where
   pub firstOnes : (n a : ℕ) → firstBits n a ≡ number (take n (bits a))
 
 pub record Children : Type 0 where
-  -- "For the root or a router of n bits each count is 0 to 64-n. For a host both are 0. Any other record is bad."
+  -- "For the root or a router of n bits each count is 0 to 64-n. For a host both are 0. Any other record is bad."; and, of document 02 (Five), "two
+  -- limits, routers and hosts, 0 to 64 each .. a limit above 64, or a count above its limit, makes the record bad"
   pub goodRecords : (n : Node) → (isGood n ≡ true) ↔ IsGood n
   pub goodWritten : (n : Node) → IsGood n ↔ (
-      ((IsRoot (n .address .number) ⊎ IsRouter (n .address .number))
+      (((IsRoot (n .address .number) ⊎ IsRouter (n .address .number))
       × (n .routers ≤ 64 - bitLength (n .address .number)) × (n .hosts ≤ 64 - bitLength (n .address .number)))
-      ⊎ (IsHost (n .address .number) × (n .routers ≡ 0) × (n .hosts ≡ 0))
+      ⊎ (IsHost (n .address .number) × (n .routers ≡ 0) × (n .hosts ≡ 0)))
+      × (n .limits .routers ≤ 64) × (n .limits .hosts ≤ 64) × (n .routers ≤ n .limits .routers) × (n .hosts ≤ n .limits .hosts)
       )
   pub badRecords : (n : Node) → IsBad n ↔ (IsGood n → ⊥)
   -- "A node record is its address with two counts: router children and host children given so far.": each kind has its own
   pub ownAddress : (n : Node) → addressIn n ≡ n .address .number
   pub ownCount : (n : Node) → (count Router n ≡ n .routers) × (count Host n ≡ n .hosts)
-  pub raisedRouters : (n : Node) → raised Router n ≡ record { address = n .address; routers = n .routers + 1; hosts = n .hosts }
-  pub raisedHosts : (n : Node) → raised Host n ≡ record { address = n .address; routers = n .routers; hosts = n .hosts + 1 }
+  pub ownLimit : (n : Node) → (limit Router n ≡ n .limits .routers) × (limit Host n ≡ n .limits .hosts)
+  pub raisedRouters : (n : Node) → raised Router n ≡ record { address = n .address; routers = n .routers + 1; hosts = n .hosts; limits = n .limits }
+  pub raisedHosts : (n : Node) → raised Host n ≡ record { address = n .address; routers = n .routers; hosts = n .hosts + 1; limits = n .limits }
   -- "Asked for a child, the node hands itself back with one count raised"
   pub raisesOne : (n : Node) (kind : Kind) → childOf n kind .refusal ≡ 0 → childOf n kind .node ≡ raised kind n
   -- "and the child's address: own address, then as many ones as the old count of that kind, then 0 for a router or 1 for a host"
@@ -91,10 +94,12 @@ pub record Children : Type 0 where
       × (steps (childOf n kind .child .number) ≡ child kind (count kind n) ∷ steps (addressIn n))
       × (parent (childOf n kind .child .number) ≡ addressIn n)
       × (depth (childOf n kind .child .number) ≡ depth (addressIn n) + 1)
-  -- "The child's own record starts with both counts 0.", and is good; of zero, of which the document is silent, it is bad
-  pub startsFresh : (a : ℕ) → fresh a ≡ record { address = record { number = a }; routers = 0; hosts = 0 }
+  -- "The child's own record starts with both counts 0.", "A fresh record gets 64 and 64", and is good; of zero, of which the document is silent, it is
+  -- bad
+  pub startsFresh : (a : ℕ) → fresh a ≡ record { address = record { number = a }; routers = 0; hosts = 0; limits = record { routers = 64; hosts = 64 } }
   pub freshIsGood : (a : ℕ) → IsAddress a → isGood (fresh a) ≡ true
   pub freshOfZero : isGood (fresh 0) ≡ false
-  -- a request keeps the record good, refused or not, and its address
+  -- a request keeps the record good, refused or not, its address and its limits
   pub keepsGood : (n : Node) (kind : Kind) → isGood n ≡ true → isGood (childOf n kind .node) ≡ true
   pub keepsAddress : (n : Node) (kind : Kind) → addressIn (childOf n kind .node) ≡ addressIn n
+  pub keepsLimits : (n : Node) (kind other : Kind) → limit other (childOf n kind .node) ≡ limit other n

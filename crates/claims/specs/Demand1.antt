@@ -13,7 +13,7 @@ use Rattle.address.specs.declared.Kind.{Kind}
 use Rattle.octets.specs.Octets.{AreOctets}
 use Rattle.header.specs.Header.{header, writing, reading}
 use Rattle.ipv6.specs.Form.{form, formWriting, formReading}
-use Rattle.node.specs.Node.{addressIn, fresh, count, childOf}
+use Rattle.node.specs.Node.{addressIn, fresh, count, limit, childOf}
 use Rattle.node.specs.Refusals.{IsGood, IsBad}
 use Rattle.node.specs.declared.Node.{Node}
 use Rattle.node.specs.declared.Given.{Given}
@@ -58,11 +58,13 @@ headerOrder p =
 pub record ExactlyWhen : Type 0 where
   -- "an address is zero"
   pub anAddress : (number : ℕ) → GivenExactly (9 when number ≡ 0 otherwise done) (made number .refusal)
-  -- "for a child 1, 2, 3": "the node record is bad"; "a host is asked for a child"; "the child would be longer than 64 bits"
+  -- "for a child 1, 2, 3": "the node record is bad"; "a host is asked for a child"; "the child would be longer than 64 bits". Request Five: "Asked for
+  -- a child at its limit, a node answers 15, after 2 and before 3."
   pub aChild : (n : Node) (kind : Kind)
       → GivenExactly (
       1 when IsBad n
       otherwise 2 when IsHost (addressIn n)
+      otherwise 15 when count kind n ≡ limit kind n
       otherwise 3 when 64 < bitLength (addressIn n) + count kind n + 1
       otherwise done
       ) (childOf n kind .refusal)

@@ -1,5 +1,6 @@
 -- Demand 3, sentence by sentence: "Take every list of requests for a child, refused ones included, from a bare root, each node going on from the
--- record it was last given back, none removed." `rs` is such a list, and `treeOf rs` the tree after it, with the records as they then stand.
+-- record it was last given back, none removed."; and, of document 02 (Five), "its list may now also hold settings of a limit, refused ones included,
+-- anywhere in it". `es` is such a list, and `treeOf es` the tree after it, with the records as they then stand.
 use Prim.Native.Nat.{ℕ, _+_, _≤_}
 use mathlib.Core.Path.{_≡_}
 use mathlib.Core.List.{List, [], _∷_, _++_, map}
@@ -11,38 +12,43 @@ use Rattle.octets.specs.Octets.{AreOctets}
 use Rattle.header.specs.Header.{header}
 use Rattle.address.specs.declared.Kind.{Kind}
 use Rattle.node.specs.declared.Node.{Node}
-use Rattle.node.specs.Node.{addressIn, fresh, childOf}
+use Rattle.node.specs.Node.{addressIn, fresh, childOf, setLimit}
 use Rattle.packet.specs.Packet.{packetHop}
 use Rattle.route.specs.Path.{path}
-use Rattle.tree.specs.Tree.{Request, request, Tree, bareRoot, standing, absent, recordOf, replaced, Reply, replied, nobody, ask, grow, grown, givenBy, givenIn, addresses, InTree, AllDiffer, Walk}
+use Rattle.tree.specs.Tree.{request, Event, asking, setting, Tree, bareRoot, standing, absent, recordOf, replaced, Reply, replied, limited, nobody, happen, grow, grown, givenBy, givenIn, addresses, InTree, AllDiffer, Walk}
 use Rattle.tree.specs.Way.{IsPacket, TheWay, deliveredAt, stoppedAt}
 use Rattle.tree.specs.Demand3.{IsAncestor}
 
-abbrev pub treeOf : List Request → Tree
-treeOf rs = grown childOf rs
+abbrev pub treeOf : List Event → Tree
+treeOf es = grown childOf setLimit es
 
 -- "stops with refusal 7 at the address's deepest ancestor that is in it"
-pub record StopsAtDeepest (rs : List Request) (p : List ℕ) (a d x : ℕ) : Type 0 where
+pub record StopsAtDeepest (es : List Event) (p : List ℕ) (a d x : ℕ) : Type 0 where
   pub ancestor : IsAncestor x d
-  pub inTree : InTree x (treeOf rs)
+  pub inTree : InTree x (treeOf es)
   -- "The deepest of several is the one with the most steps."
-  pub deepest : (y : ℕ) → IsAncestor y d → InTree y (treeOf rs) → depth y ≤ depth x
+  pub deepest : (y : ℕ) → IsAncestor y d → InTree y (treeOf es) → depth y ≤ depth x
   -- "The nodes it meets are, in order, the path from its start to there."
-  pub theWay : TheWay packetHop (treeOf rs) p a (path a x) (stoppedAt 7 x)
+  pub theWay : TheWay packetHop (treeOf es) p a (path a x) (stoppedAt 7 x)
 
 -- "A list of requests begins with the root alone, its counts 0,0." "Each is made with the record of the node it names: the one that node started
 -- with, or the one that the last request to that node handed back, refused or not." "a refused one gives no address"
 pub record Growth : Type 0 where
   pub bareRoot : treeOf [] ≡ fresh 1 ∷ []
   -- one request more, to a node that stands in the tree: what it hands back takes the place of its record
-  pub given : (rs : List Request) (a : ℕ) (n : Node) (kind : Kind) → recordOf a (treeOf rs) ≡ standing n → childOf n kind .refusal ≡ 0
-      → treeOf (rs ++ (request a kind ∷ [])) ≡ replaced a (childOf n kind .node) (treeOf rs) ++ (fresh (childOf n kind .child .number) ∷ [])
-  pub refused : (rs : List Request) (a : ℕ) (n : Node) (kind : Kind) → recordOf a (treeOf rs) ≡ standing n → (childOf n kind .refusal ≡ 0 → ⊥)
-      → treeOf (rs ++ (request a kind ∷ [])) ≡ replaced a (childOf n kind .node) (treeOf rs)
+  pub given : (es : List Event) (a : ℕ) (n : Node) (kind : Kind) → recordOf a (treeOf es) ≡ standing n → childOf n kind .refusal ≡ 0
+      → treeOf (es ++ (asking (request a kind) ∷ [])) ≡ replaced a (childOf n kind .node) (treeOf es) ++ (fresh (childOf n kind .child .number) ∷ [])
+  pub refused : (es : List Event) (a : ℕ) (n : Node) (kind : Kind) → recordOf a (treeOf es) ≡ standing n → (childOf n kind .refusal ≡ 0 → ⊥)
+      → treeOf (es ++ (asking (request a kind) ∷ [])) ≡ replaced a (childOf n kind .node) (treeOf es)
+  -- one setting more: "made with that node's record and handing one back as a request does", refused or not
+  pub set : (es : List Event) (a : ℕ) (n : Node) (kind : Kind) (k : ℕ) → recordOf a (treeOf es) ≡ standing n
+      → treeOf (es ++ (setting a kind k ∷ [])) ≡ replaced a (setLimit n kind k .node) (treeOf es)
   -- to anybody else: nothing
-  pub nobody : (rs : List Request) (a : ℕ) (kind : Kind) → recordOf a (treeOf rs) ≡ absent → treeOf (rs ++ (request a kind ∷ [])) ≡ treeOf rs
+  pub nobody : (es : List Event) (a : ℕ) (kind : Kind) → recordOf a (treeOf es) ≡ absent → treeOf (es ++ (asking (request a kind) ∷ [])) ≡ treeOf es
+  pub setAtNobody : (es : List Event) (a : ℕ) (kind : Kind) (k : ℕ) → recordOf a (treeOf es) ≡ absent
+      → treeOf (es ++ (setting a kind k ∷ [])) ≡ treeOf es
 
--- who stands in a tree, and in which order; and what the requests of a list are replied
+-- who stands in a tree, and in which order; and what the requests and settings of a list are replied
 pub record TreeWords : Type 0 where
   pub inOrder : (t : Tree) → addresses t ≡ map addressIn t
   pub recordOfNone : (a : ℕ) → recordOf a [] ≡ absent
@@ -52,40 +58,48 @@ pub record TreeWords : Type 0 where
   pub replacedThis : (a : ℕ) (m n : Node) (t : Tree) → addressIn n ≡ a → replaced a m (n ∷ t) ≡ m ∷ t
   pub replacedOther : (a : ℕ) (m n : Node) (t : Tree) → (addressIn n ≡ a → ⊥) → replaced a m (n ∷ t) ≡ n ∷ replaced a m t
   pub repliedStanding : (t : Tree) (a : ℕ) (kind : Kind) (n : Node) → recordOf a t ≡ standing n
-      → ask childOf t (request a kind) .replies ≡ replied (childOf n kind .refusal) (childOf n kind .child .number) ∷ []
-  pub repliedAbsent : (t : Tree) (a : ℕ) (kind : Kind) → recordOf a t ≡ absent → ask childOf t (request a kind) .replies ≡ nobody ∷ []
-  pub repliedNone : (t : Tree) → grow childOf t [] .replies ≡ []
-  pub repliedOneByOne : (t : Tree) (r : Request) (rs : List Request)
-      → grow childOf t (r ∷ rs) .replies ≡ ask childOf t r .replies ++ grow childOf (ask childOf t r .tree) rs .replies
+      → happen childOf setLimit t (asking (request a kind)) .replies ≡ replied (childOf n kind .refusal) (childOf n kind .child .number) ∷ []
+  pub repliedAbsent : (t : Tree) (a : ℕ) (kind : Kind) → recordOf a t ≡ absent
+      → happen childOf setLimit t (asking (request a kind)) .replies ≡ nobody ∷ []
+  pub limitedStanding : (t : Tree) (a : ℕ) (kind : Kind) (k : ℕ) (n : Node) → recordOf a t ≡ standing n
+      → happen childOf setLimit t (setting a kind k) .replies ≡ limited (setLimit n kind k .refusal) ∷ []
+  pub limitedAbsent : (t : Tree) (a : ℕ) (kind : Kind) (k : ℕ) → recordOf a t ≡ absent
+      → happen childOf setLimit t (setting a kind k) .replies ≡ nobody ∷ []
+  pub repliedNone : (t : Tree) → grow childOf setLimit t [] .replies ≡ []
+  pub repliedOneByOne : (t : Tree) (e : Event) (es : List Event)
+      → grow childOf setLimit t (e ∷ es) .replies
+      ≡ happen childOf setLimit t e .replies ++ grow childOf setLimit (happen childOf setLimit t e .tree) es .replies
   pub bare : bareRoot ≡ fresh 1 ∷ []
-  pub repliedLast : (rs : List Request) (r : Request)
-      → grow childOf bareRoot (rs ++ (r ∷ [])) .replies ≡ grow childOf bareRoot rs .replies ++ ask childOf (treeOf rs) r .replies
+  pub repliedLast : (es : List Event) (e : Event)
+      → grow childOf setLimit bareRoot (es ++ (e ∷ [])) .replies
+      ≡ grow childOf setLimit bareRoot es .replies ++ happen childOf setLimit (treeOf es) e .replies
   -- the addresses given are those replied with 0
-  pub given : (rs : List Request) → givenIn childOf rs ≡ givenBy (grow childOf (fresh 1 ∷ []) rs .replies)
+  pub given : (es : List Event) → givenIn childOf setLimit es ≡ givenBy (grow childOf setLimit (fresh 1 ∷ []) es .replies)
   pub givenNone : givenBy [] ≡ []
   pub givenChild : (a : ℕ) (rs : List Reply) → givenBy (replied 0 a ∷ rs) ≡ a ∷ givenBy rs
   pub givenRefused : (k a : ℕ) (rs : List Reply) → givenBy (replied (k + 1) a ∷ rs) ≡ givenBy rs
+  pub givenLimited : (k : ℕ) (rs : List Reply) → givenBy (limited k ∷ rs) ≡ givenBy rs
   pub givenNobody : (rs : List Reply) → givenBy (nobody ∷ rs) ≡ givenBy rs
 
 pub record EveryList : Type 0 where
   -- "The tree after a list is the root and every address given in it without a refusal."
-  pub nodes : (rs : List Request) → addresses (treeOf rs) ≡ root ∷ givenIn childOf rs
+  pub nodes : (es : List Event) → addresses (treeOf es) ≡ root ∷ givenIn childOf setLimit es
   -- "After it all addresses given differ, the root's among them."
-  pub allDiffer : (rs : List Request) → AllDiffer (root ∷ givenIn childOf rs)
+  pub allDiffer : (es : List Event) → AllDiffer (root ∷ givenIn childOf setLimit es)
   -- "every address's header, as written below, with any payload behind it, is one [a packet]"
   pub packets : (d : ℕ) (payload : List ℕ) → IsAddress d → AreOctets payload → IsPacket (header d ++ payload) d
   -- "Take any two nodes of that tree, or the same one twice .. a packet for the second's address, started at the first and passed on by our rule,
   -- is delivered at the second. The nodes it meets are, in order, document 01's path from the first to the second.", and the delivery names the
   -- second
-  pub arrives : (rs : List Request) (a d : ℕ) (p : List ℕ) → InTree a (treeOf rs) → InTree d (treeOf rs) → IsPacket p d
-      → TheWay packetHop (treeOf rs) p a (path a d) (deliveredAt d d)
+  pub arrives : (es : List Event) (a d : ℕ) (p : List ℕ) → InTree a (treeOf es) → InTree d (treeOf es) → IsPacket p d
+      → TheWay packetHop (treeOf es) p a (path a d) (deliveredAt d d)
   -- "It keeps to parent and child links"
-  pub overLinks : (rs : List Request) (a d : ℕ) → InTree a (treeOf rs) → InTree d (treeOf rs) → Walk (treeOf rs) a d (path a d)
+  pub overLinks : (es : List Event) (a d : ℕ) → InTree a (treeOf es) → InTree d (treeOf es) → Walk (treeOf es) a d (path a d)
   -- "and meets no node twice."
-  pub noNodeTwice : (rs : List Request) (a d : ℕ) → InTree a (treeOf rs) → InTree d (treeOf rs) → AllDiffer (path a d)
+  pub noNodeTwice : (es : List Event) (a d : ℕ) → InTree a (treeOf es) → InTree d (treeOf es) → AllDiffer (path a d)
   -- "Every other walk over those links from the first to the second has at least as many hops.": "Its hops are its length less one."
-  pub noShorterWalk : (rs : List Request) (a d : ℕ) (w : List ℕ) → InTree a (treeOf rs) → InTree d (treeOf rs) → Walk (treeOf rs) a d w
+  pub noShorterWalk : (es : List Event) (a d : ℕ) (w : List ℕ) → InTree a (treeOf es) → InTree d (treeOf es) → Walk (treeOf es) a d w
       → length (path a d) ≤ length w
   -- "A packet started at any node, for an address not in that tree, stops with refusal 7 at the address's deepest ancestor that is in it."
-  pub absent : (rs : List Request) (a d : ℕ) (p : List ℕ) → InTree a (treeOf rs) → (InTree d (treeOf rs) → ⊥) → IsPacket p d
-      → (x : ℕ) × StopsAtDeepest rs p a d x
+  pub absent : (es : List Event) (a d : ℕ) (p : List ℕ) → InTree a (treeOf es) → (InTree d (treeOf es) → ⊥) → IsPacket p d
+      → (x : ℕ) × StopsAtDeepest es p a d x

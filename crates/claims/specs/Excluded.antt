@@ -13,7 +13,7 @@ use Rattle.ipv6.specs.Form.{formWriting, formReading}
 use Rattle.ipv6.specs.RoundTrip.{FormRoundTrip}
 use Rattle.ipv6.specs.WrongWriters.{silentFormWriter, refusingFormWriter, shortPrefixWriter, roomlessFormWriter, spoilingFormWriter}
 use Rattle.ipv6.specs.WrongReaders.{surplusFormReader}
-use Rattle.node.specs.Node.{childOf}
+use Rattle.node.specs.Node.{childOf, setLimit}
 use Rattle.node.specs.Refusals.{ChildRefusals}
 use Rattle.node.specs.WrongRules.{refusesAll, rootIsHost, hostFirst, oneTooMany, shortOfLimit, addressBeside}
 use Rattle.forward.specs.Forward.{nextHop}
@@ -26,7 +26,7 @@ use Rattle.plan.specs.Plan.{planning}
 use Rattle.plan.specs.Refusals.{PlanRefusals}
 use Rattle.plan.specs.WrongRules.{PlanRule, refusesAll as refusesAllPlans, grammarFirst, nodesFirst, roomFirst, placeFromOne, placeBeside, writesWithoutRoom, writesRoot, rootUncounted, unlimited, routersLate}
 use Rattle.known.specs.Known.{AllHold, table}
-use Rattle.tree.specs.Tree.{Request, ChildRule}
+use Rattle.tree.specs.Tree.{Event, ChildRule, SettingRule}
 use Rattle.tree.specs.Way.{HopRule}
 use Rattle.tree.specs.Demand3.{Demand3}
 use Rattle.tree.specs.WrongChildren.{sameChild, sharedCount, limitOnParent}
@@ -62,42 +62,42 @@ pub record HoldOfOurs : Type 0 where
   pub demand1Plan : PlanRefusals planning
   pub demand2Header : HeaderRoundTrip writing reading
   pub demand2Form : FormRoundTrip formWriting formReading
-  pub demand3 : (rs : List Request) → Demand3 childOf packetHop rs
+  pub demand3 : (es : List Event) → Demand3 childOf setLimit packetHop es
 
 -- demand 3 is false of these rules
-abbrev pub FailsDemand3 : ChildRule → HopRule → Type 0
-FailsDemand3 child hop = ((rs : List Request) → Demand3 child hop rs) → ⊥
+abbrev pub FailsDemand3 : ChildRule → SettingRule → HopRule → Type 0
+FailsDemand3 child set hop = ((es : List Event) → Demand3 child set hop es) → ⊥
 
 pub record WrongNextHops : Type 0 where
   -- "One that refuses everything, and one that says 'parent' to all"
-  pub thatRefusesEverything : FailsDemand3 childOf refusesEverything
-  pub thatSaysParentToAll : FailsDemand3 childOf parentToAll
+  pub thatRefusesEverything : FailsDemand3 childOf setLimit refusesEverything
+  pub thatSaysParentToAll : FailsDemand3 childOf setLimit parentToAll
   -- "One that leaps to the destination in its first hop"
-  pub thatLeaps : FailsDemand3 childOf leaps
+  pub thatLeaps : FailsDemand3 childOf setLimit leaps
   -- "on delivery C itself"
-  pub thatNamesNobody : FailsDemand3 childOf namesNobody
+  pub thatNamesNobody : FailsDemand3 childOf setLimit namesNobody
   -- "Treating a host as the ancestor of every address it prefixes": it refuses, or it delivers
-  pub whereAHostKeeps : FailsDemand3 childOf hostKeeps
-  pub whereAHostDelivers : FailsDemand3 childOf hostDelivers
+  pub whereAHostKeeps : FailsDemand3 childOf setLimit hostKeeps
+  pub whereAHostDelivers : FailsDemand3 childOf setLimit hostDelivers
   -- "Calling the root a host because it ends in 1."
-  pub whereTheRootIsAHost : FailsDemand3 childOf rootAsHost
+  pub whereTheRootIsAHost : FailsDemand3 childOf setLimit rootAsHost
   -- "Comparing C with D's low bits instead of its high bits."
-  pub byLowBits : FailsDemand3 childOf lowBits
+  pub byLowBits : FailsDemand3 childOf setLimit lowBits
   -- "Skipping ones and stopping before the last bit"
-  pub beforeTheLastBit : FailsDemand3 childOf beforeLastBit
+  pub beforeTheLastBit : FailsDemand3 childOf setLimit beforeLastBit
   -- "using one count for both kinds"
-  pub withOneCount : FailsDemand3 childOf oneCount
+  pub withOneCount : FailsDemand3 childOf setLimit oneCount
   -- 9 before 1; the reading before 1
   pub withZeroFirst : HopRefusals zeroFirst → ⊥
   pub withReadingFirst : PacketRefusals readingFirst → ⊥
 
 pub record WrongChildren : Type 0 where
   -- "One that hands every child the same address"
-  pub ofOneAddress : FailsDemand3 sameChild packetHop
+  pub ofOneAddress : FailsDemand3 sameChild setLimit packetHop
   -- "using one count for both kinds"
-  pub withOneCount : FailsDemand3 sharedCount packetHop
+  pub withOneCount : FailsDemand3 sharedCount setLimit packetHop
   -- "Testing the length limit on the parent instead of the child"
-  pub withLimitOnParent : FailsDemand3 limitOnParent packetHop
+  pub withLimitOnParent : FailsDemand3 limitOnParent setLimit packetHop
   -- "One that refuses everything"; "Calling the root a host": demand 3 stays true of the bare root, and demand 1 excludes them
   pub thatRefusesAll : ChildRefusals refusesAll → ⊥
   pub whereTheRootIsAHost : ChildRefusals rootIsHost → ⊥

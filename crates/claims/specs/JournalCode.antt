@@ -148,5 +148,5 @@ pub record JournalFields : Type 0 where
   pub block : (p : Placed) → pasaBlock p ≡ record { slot = p .slot; refusal = p .refusal }
   pub recovered : (r : Recovered) → pasaRecovered r ≡ record { nodes = r .nodes; refusal = r .refusal }
   pub itsRecord : (r : Record) → pasaRecord r ≡ record { node = pasaNode (r .node); found = bit (r .found) }
-  pub counts : (routers hosts : ℕ) (n : Node) → withCounts routers hosts n ≡ record { address = n .address; routers = routers; hosts = hosts }
+  pub counts : (routers hosts : ℕ) (n : Node) → withCounts routers hosts n ≡ record { address = n .address; routers = routers; hosts = hosts; limits = n .limits }
   pub yesAndNo : (bit true ≡ 1) × (bit false ≡ 0)

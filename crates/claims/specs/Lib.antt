@@ -8,7 +8,7 @@ pub mod NextHop
 pub mod Demand1
 -- demand 2: what is written reads back, and what is accepted is what would have been written
 pub mod Demand2
--- demand 3: every list of requests, every packet
+-- demand 3: every list of requests and settings, every packet
 pub mod Demand3
 -- the path between two addresses, and the path program's line and text
 pub mod Paths
@@ -26,3 +26,5 @@ pub mod Structs
 pub mod Exports
 -- and what the code of request Four promises
 pub mod JournalCode
+-- request Five: limits per node, their settings, and what its code promises
+pub mod Limits

@@ -47,8 +47,19 @@ pub record OneAnswer : Type 0 where
 
 -- the same numbers in fields of the same names, and no field more; but `node` of a hop is the node named
 pub record Fields : Type 0 where
-  pub taken : (r : PasaNode) → nodeOf r ≡ record { address = record { number = r .address }; routers = r .routers; hosts = r .hosts }
-  pub node : (n : Node) → pasaNode n ≡ record { address = n .address .number; routers = n .routers; hosts = n .hosts }
+  pub taken : (r : PasaNode) → nodeOf r ≡ record {
+    address = record { number = r .address };
+    routers = r .routers;
+    hosts = r .hosts;
+    limits = record { routers = r .«router_limit»; hosts = r .«host_limit» };
+  }
+  pub node : (n : Node) → pasaNode n ≡ record {
+    address = n .address .number;
+    routers = n .routers;
+    hosts = n .hosts;
+    «router_limit» = n .limits .routers;
+    «host_limit» = n .limits .hosts;
+  }
   pub child : (g : Given) → pasaChild g ≡ record { node = pasaNode (g .node); child = g .child .number; refusal = g .refusal }
   pub hop : (r : HopAnswer) → pasaHop r ≡ record { node = r .named; refusal = r .refusal; action = actionNumber (r .action) }
   pub action : (actionNumber stop ≡ 0) × (actionNumber deliver ≡ 1) × (actionNumber toParent ≡ 2) × (actionNumber toChild ≡ 3)
@@ -59,4 +70,4 @@ pub record Fields : Type 0 where
   pub plan : (p : Planned) → pasaPlan p ≡ record { nodes = p .nodes; place = p .place; refusal = p .refusal }
   pub isAHost : (a : ℕ) → isHost a ≡ true → hostAnswer a ≡ 1
   pub isNoHost : (a : ℕ) → isHost a ≡ false → hostAnswer a ≡ 0
-  pub interfaceNumber : interface ≡ 1
+  pub interfaceNumber : interface ≡ 2

@@ -449,7 +449,7 @@ fn count_word(counts: Counts, node: Address, word: Address) -> Counts
     }
 }
 
-// No record: all zeros.
+// No record: that of address zero, which is bad.
 fn absent() -> Record
     ensures { λ r. ⌜ r ≡ record { node = fresh 0; found = false } ⌝ }
 {

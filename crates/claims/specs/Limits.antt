@@ -1,0 +1,127 @@
+-- Request Five: limits per node. What a limit makes of a record stands with the record (Addresses), 15 with the refusals of a child (Demand1), and a
+-- list of demand 3 holds settings (Demand3). Here are the settings themselves, what the code of Five promises, and the wrong rules.
+use Prim.Native.Nat.{ℕ, _^_, _<_, _≤_}
+use mathlib.Core.Path.{_≡_}
+use mathlib.Core.Bool.{true}
+use mathlib.Core.Logic.{_⊎_, _↔_}
+use mathlib.Core.List.{List}
+use Rattle.address.specs.Order.{done, _when_otherwise_, GivenExactly}
+use Rattle.address.specs.Bits.{root}
+use Rattle.address.specs.declared.Kind.{Kind}
+use Rattle.address.specs.declared.Kind.the-variants.{Router, Host}
+use Rattle.node.specs.declared.Node.{Node}
+use Rattle.node.specs.declared.Limited.{Limited}
+use Rattle.node.specs.Node.{addressIn, fresh, withCounts, count, limit, withLimits, withLimit, isGood, refuseChild, childOf, refuseSetting, setLimit}
+use Rattle.node.specs.Refusals.{FitsAddress, IsGood, IsBad, ChildRefusals, SettingRefusals}
+use Rattle.node.specs.WrongRules.{pastLimit, limitless, liftsLimits, oneLimit, oneMore, limitLast, limitFirst}
+use Rattle.node.specs.WrongRules.{setsNothing, setsBelow, setsAbove, setsCut, setsBoth, setsOther, mendsRecord}
+use Rattle.forward.specs.Forward.{refusedHop, nextHop}
+use Rattle.packet.specs.Packet.{packetHop}
+use Rattle.tree.specs.Tree.{Event}
+use Rattle.tree.specs.Demand3.{Demand3}
+use Rattle.tree.specs.WrongSettings.{zeroesCounts, raisesCount, anotherNode, belowCount}
+use Rattle.pasa.specs.declared.children.PasaNode.{PasaNode}
+use Rattle.pasa.specs.declared.children.PasaLimited.{PasaLimited}
+use Rattle.pasa.specs.Children.{nodeOf, pasaNode, pasaLimited}
+use Rattle.node.proofs.Node.limit.Reads as limit-reads
+use Rattle.node.proofs.Node.set_limit.Reads as set-limit-reads
+use Rattle.pasa.proofs.children.pasa_limit_routers.Reads as limit-routers-reads
+use Rattle.pasa.proofs.children.pasa_limit_hosts.Reads as limit-hosts-reads
+use Rattle.claims.specs.Excluded.{FailsDemand3}
+
+-- the setting of a limit, for every record, a host's and a bad one among them, and every number asked
+pub record TheSetting : Type 0 where
+  -- "Setting a limit outside 0 to 64 or below its count, or on a bad record, is refused with 1"
+  pub exactlyWhen : (n : Node) (kind : Kind) (k : ℕ)
+      → GivenExactly (1 when (64 < k) ⊎ (k < count kind n) ⊎ IsBad n otherwise done) (setLimit n kind k .refusal)
+  -- "a returned record is the one handed in"
+  pub asItCame : (n : Node) (kind : Kind) (k : ℕ) → (setLimit n kind k .refusal ≡ 0 → ⊥) → setLimit n kind k .node ≡ n
+  -- "otherwise the record comes back with that limit as asked and nothing else changed"
+  pub routersAsAsked : (n : Node) (k : ℕ) → setLimit n Router k .refusal ≡ 0
+      → setLimit n Router k .node
+      ≡ record { address = n .address; routers = n .routers; hosts = n .hosts; limits = record { routers = k; hosts = n .limits .hosts } }
+  pub hostsAsAsked : (n : Node) (k : ℕ) → setLimit n Host k .refusal ≡ 0
+      → setLimit n Host k .node
+      ≡ record { address = n .address; routers = n .routers; hosts = n .hosts; limits = record { routers = n .limits .routers; hosts = k } }
+  -- so a record stays good, and keeps its address and its counts
+  pub keepsGood : (n : Node) (kind : Kind) (k : ℕ) → isGood n ≡ true → isGood (setLimit n kind k .node) ≡ true
+  pub keepsAddress : (n : Node) (kind : Kind) (k : ℕ) → addressIn (setLimit n kind k .node) ≡ addressIn n
+  pub keepsCounts : (n : Node) (kind : Kind) (k : ℕ) (other : Kind) → count other (setLimit n kind k .node) ≡ count other n
+  -- these leave one rule
+  pub oneRule : (rule : Node → Kind → ℕ → Limited) → SettingRefusals rule → (n : Node) (kind : Kind) (k : ℕ) → rule n kind k ≡ setLimit n kind k
+
+-- "64 meaning no cap .. so document 01's cases stand": where both limits are 64 a record is good exactly if document 01 says so, and is never asked
+-- for a child at its limit
+pub record NoCap : Type 0 where
+  pub good : (n : Node) → limit Router n ≡ 64 → limit Host n ≡ 64 → IsGood n ↔ FitsAddress n
+  pub never15 : (n : Node) (kind : Kind) → addressIn n < 2 ^ 64 → limit kind n ≡ 64 → childOf n kind .refusal ≡ 15 → ⊥
+
+-- values
+pub record ValuesOfFive : Type 0 where
+  -- a count equal to its limit is a good record: the child of that kind is 15, one of the other kind is given
+  pub atItsLimit : childOf (withLimits 1 64 (withCounts 1 0 (fresh root))) Router ≡ refuseChild 15 (withLimits 1 64 (withCounts 1 0 (fresh root)))
+  pub ofTheOtherKind : childOf (withLimits 1 64 (withCounts 1 0 (fresh root))) Host .child .number ≡ 0b11
+  -- 15 before 3: the root with 63 hosts of 63, and of 64; a router of 64 bits that may give none
+  pub sixtyThree : childOf (withLimits 64 63 (withCounts 0 63 (fresh root))) Host .refusal ≡ 15
+  pub sixtyFour : childOf (withLimits 64 64 (withCounts 0 63 (fresh root))) Host .refusal ≡ 3
+  pub longest : childOf (withLimits 0 0 (fresh 0x8000_0000_0000_0000)) Router .refusal ≡ 15
+  -- and after 2: a host that may give none
+  pub aHost : childOf (withLimits 0 0 (fresh 0b11)) Host .refusal ≡ 2
+  -- a limit of 65 makes the record bad for everything: a child of the other kind, the next hop, a setting; and so does a count above its limit
+  pub badForAChild : childOf (withLimits 65 64 (fresh root)) Host .refusal ≡ 1
+  pub badForAHop : nextHop (withLimits 64 65 (fresh root)) root ≡ refusedHop 1
+  pub badForASetting : setLimit (withLimits 65 64 (fresh root)) Router 64 ≡ refuseSetting 1 (withLimits 65 64 (fresh root))
+  pub countAbove : childOf (withLimits 1 64 (withCounts 2 0 (fresh root))) Host .refusal ≡ 1
+  -- limits of the root with three routers: its count, one below, 0, 64, 65, 255, 256; and on a host
+  pub theCount : setLimit (withCounts 3 0 (fresh root)) Router 3 ≡ record { node = withLimits 3 64 (withCounts 3 0 (fresh root)); refusal = 0 }
+  pub below : setLimit (withCounts 3 0 (fresh root)) Router 2 ≡ refuseSetting 1 (withCounts 3 0 (fresh root))
+  pub noHosts : setLimit (withCounts 3 0 (fresh root)) Host 0 ≡ record { node = withLimits 64 0 (withCounts 3 0 (fresh root)); refusal = 0 }
+  pub again : setLimit (withCounts 3 0 (fresh root)) Router 64 ≡ record { node = withCounts 3 0 (fresh root); refusal = 0 }
+  pub above : (setLimit (fresh root) Router 65 .refusal ≡ 1) × (setLimit (fresh root) Router 255 .refusal ≡ 1) × (setLimit (fresh root) Router 256 .refusal ≡ 1)
+  pub onAHost : setLimit (fresh 0b11) Router 0 ≡ record { node = withLimits 0 64 (fresh 0b11); refusal = 0 }
+
+-- what the code promises
+pub record LimitCode : Type 0 where
+  pub nodeLimitAsks : (n : Node) (kind : Kind) → limit-reads.Asked tt (n, (kind, tt))
+  pub nodeLimit : (n : Node) (kind : Kind) (r : ℕ) → limit-reads.Learnt tt (n, (kind, tt)) r (n, (kind, tt)) → r ≡ limit kind n
+  pub nodeSetLimitAsks : (n : Node) (kind : Kind) (k : ℕ) → set-limit-reads.Asked tt (n, (kind, (k, tt)))
+  pub nodeSetLimit : (n : Node) (kind : Kind) (k : ℕ) (r : Limited) → set-limit-reads.Learnt tt (n, (kind, (k, tt))) r (n, (kind, (k, tt)))
+      → r ≡ setLimit n kind k
+  pub pasaLimitRoutersAsks : (n : PasaNode) (k : ℕ) → limit-routers-reads.Asked tt (n, (k, tt))
+  pub pasaLimitRouters : (n : PasaNode) (k : ℕ) (r : PasaLimited) → limit-routers-reads.Learnt tt (n, (k, tt)) r (n, (k, tt))
+      → r ≡ pasaLimited (setLimit (nodeOf n) Router k)
+  pub pasaLimitHostsAsks : (n : PasaNode) (k : ℕ) → limit-hosts-reads.Asked tt (n, (k, tt))
+  pub pasaLimitHosts : (n : PasaNode) (k : ℕ) (r : PasaLimited) → limit-hosts-reads.Learnt tt (n, (k, tt)) r (n, (k, tt))
+      → r ≡ pasaLimited (setLimit (nodeOf n) Host k)
+  pub limited : (l : Limited) → pasaLimited l ≡ record { node = pasaNode (l .node); refusal = l .refusal }
+
+-- rules for a child that are wrong about limits
+pub record WrongLimits : Type 0 where
+  -- one that does not look at them where it gives a child: demand 1 excludes it, and demand 3 too, since the count above its limit makes the record bad
+  pub pastTheLimit : ChildRefusals pastLimit → ⊥
+  pub pastTheLimitInATree : FailsDemand3 pastLimit setLimit packetHop
+  -- one that takes them away: its records stay good, so demand 3 is true of it, and demand 1 alone excludes it
+  pub thatLiftsThem : ChildRefusals liftsLimits → ⊥
+  pub unseenByDemand3 : (es : List Event) → Demand3 liftsLimits setLimit packetHop es
+  -- one that takes a record with a limit of 65; one limit for both kinds; one child more; 15 after 3; 15 before 2
+  pub withoutAny : ChildRefusals limitless → ⊥
+  pub withOneForBoth : ChildRefusals oneLimit → ⊥
+  pub withOneMore : ChildRefusals oneMore → ⊥
+  pub withLimitLast : ChildRefusals limitLast → ⊥
+  pub withLimitFirst : ChildRefusals limitFirst → ⊥
+
+-- and wrong rules for a setting
+pub record WrongSettings : Type 0 where
+  pub thatSetsNothing : SettingRefusals setsNothing → ⊥
+  pub thatSetsBelow : SettingRefusals setsBelow → ⊥
+  pub thatSetsAbove : SettingRefusals setsAbove → ⊥
+  pub thatCuts : SettingRefusals setsCut → ⊥
+  pub thatSetsBoth : SettingRefusals setsBoth → ⊥
+  pub thatSetsTheOther : SettingRefusals setsOther → ⊥
+  pub thatMends : SettingRefusals mendsRecord → ⊥
+  -- through the clauses of demand 3: counts zeroed, addresses don't differ; a count raised, a packet for an absent address is lost; another node's
+  -- record, the root is no more in the tree; a limit below the count, the record is bad and nothing arrives
+  pub thatZeroesCounts : FailsDemand3 childOf zeroesCounts packetHop
+  pub thatRaisesACount : FailsDemand3 childOf raisesCount packetHop
+  pub ofAnotherNode : FailsDemand3 childOf anotherNode packetHop
+  pub belowTheCount : FailsDemand3 childOf belowCount packetHop
