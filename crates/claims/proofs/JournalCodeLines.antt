@@ -10,7 +10,7 @@ use Rattle.reader.proofs.Promises.{start-promise, start-asks-nothing, next-prom
 use Rattle.reader.proofs.Promises.{recover-asks-nothing as reader-recover-asks-nothing}
 use Rattle.reader.proofs.Theorem.{same-answers}
 use Rattle.journal.proofs.Promises.{recover-asks-nothing, write-asks-nothing, record-in-promise, record-in-asks-nothing}
-use Rattle.pasa.specs.Journals.{pasaBlock, pasaRecovered, pasaRecord, bit}
+use Rattle.pasa.specs.Journals.{nodeIn, nobody, pasaBlock, pasaRecovered, pasaRecord, bit}
 use Rattle.pasa.proofs.JournalPromises.{node-promise, node-asks-nothing, journal-write-promise, journal-write-asks-nothing}
 use Rattle.pasa.proofs.JournalPromises.{journal-recover-promise, journal-recover-asks-nothing, journal-record-promise, journal-record-asks-nothing}
 use Rattle.pasa.proofs.JournalPromises.{crc-promise as pasa-crc-promise, crc-asks-nothing as pasa-crc-asks-nothing}
@@ -72,11 +72,12 @@ the-reader = record {
 }
 
 pub journal-fields : JournalFields
-unfolding withCounts pasaBlock pasaRecovered pasaRecord bit
+unfolding withCounts pasaBlock pasaRecovered pasaRecord bit nodeIn nobody
 journal-fields = record {
   block = λ p. refl;
   recovered = λ r. refl;
-  itsRecord = λ r. refl;
+  itsRecord = λ r e. rw e;
+  noRecord = λ r e. rw e;
   counts = λ routers hosts n. refl;
   yesAndNo = (refl, refl);
 }

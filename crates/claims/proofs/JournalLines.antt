@@ -1,13 +1,13 @@
 -- The front page's lines on a journal, each taken from the record that carries it. Assumes nothing.
-use Prim.Native.Nat.{ℕ, zero, suc, min, _+_, _*_, _-_, _/_, _%_, _^_, _<_, _≤_}
+use Prim.Native.Nat.{ℕ, suc, _+_, _-_, _/_, _%_, _^_, _≤_}
 use mathlib.Core.Path.{_≡_, refl, sym, ap, ap₂, subst, _∙_}
 use mathlib.Core.Bool.{Bool, true, false, not, _&&_, and-false}
-use mathlib.Core.Logic.{_⊎_, inl, inr, ⊎-elim, _↔_}
-use mathlib.Core.List.{List, [], _∷_, _++_, List·Memᴰ}
+use mathlib.Core.Logic.{_⊎_, inl, inr}
+use mathlib.Core.List.{List, [], _∷_, _++_}
 use native.Mathlib.Omega.{arith}
 use borrow.Author.Tests.{eq-eqb, ne-eqb}
 use lib.Dec.{eqb}
-use lib.ListN.{length, take, drop, getD, replicate, length-append}
+use lib.ListN.{length, getD, replicate, length-append}
 use lib.Seq.{take-at, drop-at, take-all}
 use Rattle.address.specs.Address.{isHost, parent}
 use Rattle.address.specs.declared.Kind.{Kind}
@@ -20,17 +20,17 @@ use Rattle.crc.proofs.Table.{table-rule, by-table}
 use Rattle.crc.proofs.Known.{known-checks}
 use Rattle.crc.proofs.WrongChecks.{wrong-checks}
 use Rattle.address.specs.Choice.{if_then_else_}
+use Rattle.node.specs.Node.{fresh, withCounts, count}
 use Rattle.block.specs.Block.{spread, content, block, isCount, blockPut, addressesIn, isBlock}
-use Rattle.block.specs.Blocks.{AreWords, IsBlockOf}
+use Rattle.block.specs.Blocks.{IsBlockOf}
 use Rattle.block.proofs.Cases.{isCount-true, true-isCount}
 use Rattle.block.proofs.Laws.{allAre-replicate}
 use Rattle.block.proofs.Theorem.{blocks}
 use Rattle.journal.specs.Replay.{Replay, known, fault}
 use Rattle.journal.specs.Slots.{slotsIn, slotsOf, replayed}
-use Rattle.journal.specs.Recovery.{recovering}
 use Rattle.journal.specs.Writing.{withSlot, writing}
 use Rattle.journal.specs.Record.{isKind, children}
-use Rattle.journals.specs.Replays.{IsReplayed, IsFirstFault}
+use Rattle.journals.specs.Replays.{recovered, IsReplayed, IsFirstFault}
 use Rattle.journals.specs.Slots.{Right, Holds, none, torn, block as aBlock, Fault, misplaced, noBlock, wrongAddress}
 use Rattle.journals.specs.Refusals.{Written, none as noneWritten, skipped, kept}
 use Rattle.journals.specs.PowerCuts.{Accepts, storedAt, inOrder}
@@ -43,8 +43,8 @@ use Rattle.journals.proofs.Writing.{write-refusals}
 use Rattle.journals.proofs.AfterWrites.{after-write}
 use Rattle.journals.proofs.Cuts.{length-upTo, getD-upTo, power-cut, stored-whole, cut-octets}
 use Rattle.journals.proofs.RoundTrips.{round-trip}
-use Rattle.journals.proofs.Finding.{found-exactly, found-counts, node-notFound}
-use Rattle.journals.proofs.Theorem.{replays, records}
+use Rattle.journals.proofs.Finding.{found-exactly, found-counts, found-limits, node-notFound}
+use Rattle.journals.proofs.Theorem.{replays, given-replayed, records}
 use Rattle.journals.proofs.OneRule.{right-once, one-recovery, one-writer}
 use Rattle.journals.proofs.WrongRecoveries.{wrong-recoveries-excluded}
 use Rattle.journals.proofs.Orders.{orders}
@@ -219,6 +219,8 @@ the-slots = record {
     λ c. (c .node, c .kind, c .stands, c .given, c .child),
     λ h. record { node = h .0; kind = h .1; stands = h .2; given = h .3; child = h .4 },
   );
+  withoutLimits = λ n. (unfold recovered withCounts count fresh in refl);
+  withSettings = given-replayed;
   isReplayed = λ xs nodes. (
     λ r. (r .requests, r .addressesGiven, r .theNodes, r .few),
     λ h. record { requests = h .0; addressesGiven = h .1; theNodes = h .2; few = h .3 },
@@ -347,7 +349,9 @@ the-record = record {
   aHost = children-host;
   noRouter = λ a w words h. children-other a w words Router (no-kind a w words Router (no-router a w words h));
   noHost = λ a w words h. children-other a w words Host (no-kind a w words Host (no-host a w words h));
-  ofATree = λ rs zeros a n e. let r = records .found rs zeros a n e in (r .0, r .2);
+  itsLimits = λ words a kind. found-limits words a kind;
+  ofATree = records .found;
+  ofRequests = records .same;
   noNode = records .absent;
 }
 

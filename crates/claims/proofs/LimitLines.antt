@@ -1,5 +1,5 @@
 -- The lines of request Five, each taken from the record that carries it. Assumes nothing.
-use mathlib.Core.Path.{refl, _∙_}
+use mathlib.Core.Path.{refl}
 use Rattle.address.specs.Bits.{lastBit, bitsIn, bits, digit, numberFrom, number}
 use Rattle.address.specs.Steps.{lastOf, stepBits}
 use Rattle.address.specs.Address.{bitLength, endsInOne, isHost}

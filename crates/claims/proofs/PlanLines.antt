@@ -2,14 +2,14 @@
 use Prim.Native.Nat.{ℕ, _+_}
 use mathlib.Core.Path.{_≡_, refl, sym, ap, ap₂, subst, _∙_}
 use mathlib.Core.Logic.{_⊎_, inl, inr}
-use mathlib.Core.List.{List, [], _∷_, _++_}
+use mathlib.Core.List.{List, [], _∷_, _++_, map}
 use native.Mathlib.Numerals.{add-one}
 use native.Mathlib.Omega.{arith}
 use borrow.Author.Tests.{ne-eqb}
 use lib.ListN.{length, take, drop}
 use lib.Seq.{take-append-seam, drop-append-seam}
-use Rattle.node.specs.Node.{childOf}
-use Rattle.tree.specs.Tree.{grown, addresses, AllDiffer}
+use Rattle.node.specs.Node.{childOf, setLimit}
+use Rattle.tree.specs.Tree.{asking, grown, addresses, AllDiffer}
 use Rattle.plan.specs.Grammar.{Items, none, host, router, itemsText, planText, groupsOpen}
 use Rattle.plan.specs.Hall.{answers, nodes, hall}
 use Rattle.plan.specs.Reading.{whole, reading}
@@ -106,7 +106,7 @@ what-is-read = record {
       let read = halls-read .without text words z in
       let counted = plan-refusals .without text words z in
       let listed = read .2 in
-      let tree = addresses (grown childOf (requests (read .0))) in
+      let tree = addresses (grown childOf setLimit (map asking (requests (read .0)))) in
       let many = sym (listed .number) in
       let parts = front (planning text words .words) tree words (planning text words .answer .nodes) (listed .number)
       (listed .listed ∙ ap (λ (k : ℕ). tree ++ drop k words) many) in

@@ -45,7 +45,7 @@ use Rattle.pasa.proofs.addresses.pasa_parent.Reads as parent-reads
 use Rattle.pasa.proofs.addresses.pasa_depth.Reads as depth-reads
 use Rattle.pasa.proofs.addresses.pasa_bit_length.Reads as bit-length-reads
 use Rattle.pasa.proofs.addresses.pasa_is_host.Reads as is-host-reads
-use Rattle.pasa.proofs.addresses.pasa_interface_1.Reads as interface-reads
+use Rattle.pasa.proofs.addresses.pasa_interface_2.Reads as interface-reads
 
 pub record ExportsAskNothing : Type 0 where
   pub pasaFresh : (a : ℕ) → fresh-reads.Asked tt (a, tt)

@@ -147,6 +147,10 @@ pub record TheReader : Type 2 where
 pub record JournalFields : Type 0 where
   pub block : (p : Placed) → pasaBlock p ≡ record { slot = p .slot; refusal = p .refusal }
   pub recovered : (r : Recovered) → pasaRecovered r ≡ record { nodes = r .nodes; refusal = r .refusal }
-  pub itsRecord : (r : Record) → pasaRecord r ≡ record { node = pasaNode (r .node); found = bit (r .found) }
+  pub itsRecord : (r : Record) → r .found ≡ true → pasaRecord r ≡ record { node = pasaNode (r .node); found = 1 }
+  -- no node: all zeros, the limits too
+  pub noRecord : (r : Record) → r .found ≡ false
+      → pasaRecord r
+      ≡ record { node = record { address = 0; routers = 0; hosts = 0; «router_limit» = 0; «host_limit» = 0 }; found = 0 }
   pub counts : (routers hosts : ℕ) (n : Node) → withCounts routers hosts n ≡ record { address = n .address; routers = routers; hosts = hosts; limits = n .limits }
   pub yesAndNo : (bit true ≡ 1) × (bit false ≡ 0)

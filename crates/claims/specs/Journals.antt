@@ -2,9 +2,9 @@
 -- what its first fault; then recovery, the writer, the power cut and a node's record.
 use Prim.Native.Nat.{ℕ, suc, min, _+_, _*_, _-_, _/_, _%_, _^_, _<_, _≤_}
 use mathlib.Core.Path.{_≡_}
-use mathlib.Core.Bool.{Bool, true, false}
+use mathlib.Core.Bool.{true, false}
 use mathlib.Core.Logic.{_⊎_, _↔_}
-use mathlib.Core.List.{List, [], _∷_, _++_, List·Memᴰ}
+use mathlib.Core.List.{List, [], _∷_, _++_, map, List·Memᴰ}
 use lib.Bits.{bitXor}
 use lib.ListN.{length, take, drop, getD, set, replicate}
 use Rattle.address.specs.Order.{Order, done, _when_otherwise_, GivenExactly}
@@ -12,10 +12,10 @@ use Rattle.address.specs.Address.{parent, isHost}
 use Rattle.address.specs.declared.Kind.{Kind}
 use Rattle.address.specs.declared.Kind.the-variants.{Router, Host}
 use Rattle.octets.specs.Octets.{octets, AreOctets}
-use Rattle.node.specs.Node.{addressIn, fresh, count, childOf}
+use Rattle.node.specs.Node.{addressIn, fresh, count, limit, childOf, setLimit}
 use Rattle.node.specs.declared.Node.{Node}
 use Rattle.packet.specs.Packet.{packetHop}
-use Rattle.tree.specs.Tree.{Request, Tree, standing, recordOf, grown, givenIn, addresses, InTree}
+use Rattle.tree.specs.Tree.{Request, Event, asking, Tree, standing, recordOf, grown, givenIn, addresses, InTree}
 use Rattle.tree.specs.Demand3.{Demand3}
 use Rattle.crc.specs.Crc.{bit, movedUp, shiftIn, shiftBits, shiftOctet, crcFrom, crc}
 use Rattle.crc.specs.Checks.{remainders, remainder}
@@ -24,10 +24,10 @@ use Rattle.crc.specs.WrongChecks.{startingAtZero, ofPolynomial8005, lowBitFirst
 use Rattle.block.specs.Block.{spread, block, blockPut, allAre, isBlock}
 use Rattle.block.specs.Blocks.{AreWords, IsBlockOf}
 use Rattle.journal.specs.Slots.{slotsOf}
-use Rattle.journal.specs.Recovery.{RecoverEffect, recovering}
+use Rattle.journal.specs.Recovery.{recovering}
 use Rattle.journal.specs.Writing.{withSlot, writing}
 use Rattle.journal.specs.Record.{children, recordIn}
-use Rattle.journals.specs.Replays.{IsNextChild, IsReplayed, IsFirstFault}
+use Rattle.journals.specs.Replays.{recovered, IsNextChild, IsReplayed, IsFirstFault}
 use Rattle.journals.specs.Slots.{IsLength, Holds, AllErased, Right, Fault}
 use Rattle.journals.specs.Refusals.{RecoverRule, RecoverRefusals, WriteRule, WriteRefusals, Written, NoneErased, IsFirstErased}
 use Rattle.journals.specs.PowerCuts.{Accepts, AfterWrite, storedAt, inOrder, PowerCut}
@@ -96,21 +96,30 @@ pub record TheSlots : Type 0 where
       ⊎ ((more : List ℕ) × (others : List ℕ) × (xs ≡ more ++ others) × IsBlockOf more slot × Holds slots others))
   pub noneErased : AllErased [] ↔ Unit {0}
   pub allErased : (slot : List ℕ) (slots : List (List ℕ)) → AllErased (slot ∷ slots) ↔ ((slot ≡ replicate 512 0xFF) × AllErased slots)
-  -- "whose addresses each are the next child of a node already known, starting from a bare root": some record of the tree, asked for a child of
-  -- a kind, answers with exactly this address
+  -- "whose addresses each are the next child of a node already known, starting from a bare root": some node of the tree, by its address and its
+  -- counts, asked for a child of a kind, answers with exactly this address
   pub nextChild : (t : Tree) (a : ℕ)
       → IsNextChild t a
-      ↔ ((n : Node) × (kind : Kind) × (recordOf (addressIn n) t ≡ standing n) × (childOf n kind .refusal ≡ 0) × (childOf n kind .child .number ≡ a))
-  -- addresses replayed without a fault: those given in a list of requests, whose tree has not more than 512 nodes
+      ↔ ((n : Node) × (kind : Kind) × (recordOf (addressIn n) t ≡ standing n)
+      × (childOf (recovered n) kind .refusal ≡ 0) × (childOf (recovered n) kind .child .number ≡ a))
+  -- request Five: "The journal holds no limits, so recovered nodes have 64 and 64."
+  pub withoutLimits : (n : Node)
+      → recovered n ≡ record { address = n .address; routers = n .routers; hosts = n .hosts; limits = record { routers = 64; hosts = 64 } }
+  -- addresses replayed without a fault: those given in a list of requests alone, whose tree has not more than 512 nodes
   pub isReplayed : (xs nodes : List ℕ)
       → IsReplayed xs nodes
-      ↔ ((rs : List Request) × (xs ≡ givenIn childOf rs) × (nodes ≡ addresses (grown childOf rs)) × (length nodes ≤ 512))
+      ↔ ((rs : List Request) × (xs ≡ givenIn childOf setLimit (map asking rs)) × (nodes ≡ addresses (grown childOf setLimit (map asking rs)))
+      × (length nodes ≤ 512))
+  -- and those of every list with settings in it are
+  pub withSettings : (es : List Event) → length (addresses (grown childOf setLimit es)) ≤ 512
+      → IsReplayed (givenIn childOf setLimit es) (addresses (grown childOf setLimit es))
   -- the first address with a fault: "a 513th node, the root counted, is 14, but 17 if it is no next child"
   pub isFirstFault : (xs : List ℕ) (n : ℕ)
       → IsFirstFault xs n
-      ↔ ((rs : List Request) × (a : ℕ) × (rest : List ℕ) × (xs ≡ givenIn childOf rs ++ (a ∷ rest)) × (length (addresses (grown childOf rs)) ≤ 512)
-      × (((n ≡ 17) × (IsNextChild (grown childOf rs) a → ⊥))
-      ⊎ ((n ≡ 14) × IsNextChild (grown childOf rs) a × (512 ≤ length (addresses (grown childOf rs))))))
+      ↔ ((rs : List Request) × (a : ℕ) × (rest : List ℕ) × (xs ≡ givenIn childOf setLimit (map asking rs) ++ (a ∷ rest))
+      × (length (addresses (grown childOf setLimit (map asking rs))) ≤ 512)
+      × (((n ≡ 17) × (IsNextChild (grown childOf setLimit (map asking rs)) a → ⊥))
+      ⊎ ((n ≡ 14) × IsNextChild (grown childOf setLimit (map asking rs)) a × (512 ≤ length (addresses (grown childOf setLimit (map asking rs)))))))
   -- a right journal: torn slots and right blocks, then erased slots
   pub right : (slots : List (List ℕ)) (nodes : List ℕ)
       → Right slots nodes
@@ -193,7 +202,7 @@ pub record TheJournal : Type 0 where
   -- whatever is recovered is a tree of demand 3
   pub aHall : (journal words : List ℕ) → AreOctets journal → recovering journal words .answer .refusal ≡ 0
       → (nodes : List ℕ) × Right (slotsOf journal) nodes × RecoversTo journal nodes
-      × ((rs : List Request) × (nodes ≡ addresses (grown childOf rs)) × Demand3 childOf packetHop rs)
+      × ((rs : List Request) × (nodes ≡ addresses (grown childOf setLimit (map asking rs))) × Demand3 childOf setLimit packetHop (map asking rs))
   -- "A block goes to the first wholly erased slot.", and no other byte of the journal is changed
   pub theSlot : (journal xs : List ℕ) → AreOctets journal → writing journal xs .answer .refusal ≡ 0
       → (before : List (List ℕ)) × (erased : List ℕ) × (rest : List (List ℕ)) × (slotsOf journal ≡ before ++ erased ∷ rest)
@@ -204,17 +213,17 @@ pub record TheJournal : Type 0 where
   -- after a write: for every journal that the writer accepts, what was recovered before and then the block's addresses, in order
   pub afterAWrite : (journal xs : List ℕ) → AreOctets journal → AreWords xs → writing journal xs .answer .refusal ≡ 0
       → (nodes : List ℕ) × RecoversTo journal nodes × RecoversTo (writing journal xs .journal) (nodes ++ xs)
-  -- every list of addresses given since a bare root, cut into blocks of 1 to 63 in any way, is written without a refusal and recovered exactly,
+  -- every list of addresses given since a bare root, whatever limits were set meanwhile, cut into blocks of 1 to 63 in any way, is written without a refusal and recovered exactly,
   -- where the slots suffice, and the nodes
-  pub everyList : (slots : ℕ) (rs : List Request) (blocks : List (List ℕ)) → 1 ≤ slots → slots ≤ 128
-      → givenIn childOf rs ≡ joined blocks → AreBlocks blocks → length blocks ≤ slots → length (addresses (grown childOf rs)) ≤ 512
-      → AllWritten writing (replicate (512 * slots) 0xFF) blocks (λ after. RecoversTo after (addresses (grown childOf rs)))
+  pub everyList : (slots : ℕ) (es : List Event) (blocks : List (List ℕ)) → 1 ≤ slots → slots ≤ 128
+      → givenIn childOf setLimit es ≡ joined blocks → AreBlocks blocks → length blocks ≤ slots → length (addresses (grown childOf setLimit es)) ≤ 512
+      → AllWritten writing (replicate (512 * slots) 0xFF) blocks (λ after. RecoversTo after (addresses (grown childOf setLimit es)))
   -- and on from any journal, slots lost to torn blocks counted
-  pub onward : (journal : List ℕ) (kept : List (List ℕ)) (rs more : List Request) (blocks : List (List ℕ)) → AreOctets journal
-      → Written (slotsOf journal) kept → RecoversTo journal (addresses (grown childOf rs))
-      → addresses (grown childOf (rs ++ more)) ≡ addresses (grown childOf rs) ++ joined blocks → AreBlocks blocks
-      → length kept + length blocks ≤ length (slotsOf journal) → length (addresses (grown childOf (rs ++ more))) ≤ 512
-      → AllWritten writing journal blocks (λ after. RecoversTo after (addresses (grown childOf (rs ++ more))))
+  pub onward : (journal : List ℕ) (kept : List (List ℕ)) (es more : List Event) (blocks : List (List ℕ)) → AreOctets journal
+      → Written (slotsOf journal) kept → RecoversTo journal (addresses (grown childOf setLimit es))
+      → addresses (grown childOf setLimit (es ++ more)) ≡ addresses (grown childOf setLimit es) ++ joined blocks → AreBlocks blocks
+      → length kept + length blocks ≤ length (slotsOf journal) → length (addresses (grown childOf setLimit (es ++ more))) ≤ 512
+      → AllWritten writing journal blocks (λ after. RecoversTo after (addresses (grown childOf setLimit (es ++ more))))
   pub noBlocks : (joined [] ≡ []) × (AreBlocks [] ↔ Unit {0})
   pub blocksOne : (xs : List ℕ) (blocks : List (List ℕ))
       → (joined (xs ∷ blocks) ≡ xs ++ joined blocks) × (AreBlocks (xs ∷ blocks) ↔ (((1 ≤ length xs) × (length xs ≤ 63)) × AreBlocks blocks))
@@ -270,12 +279,16 @@ pub record TheRecord : Type 0 where
   pub aHost : (a w : ℕ) (words : List ℕ) → parent w ≡ a → isHost w ≡ true → children Host a (w ∷ words) ≡ suc (children Host a words)
   pub noRouter : (a w : ℕ) (words : List ℕ) → (parent w ≡ a → ⊥) ⊎ (isHost w ≡ true) → children Router a (w ∷ words) ≡ children Router a words
   pub noHost : (a w : ℕ) (words : List ℕ) → (parent w ≡ a → ⊥) ⊎ (isHost w ≡ false) → children Host a (w ∷ words) ≡ children Host a words
-  -- of the words that recovery leaves: the tree's own record, by its address and its counts
-  pub ofATree : (rs : List Request) (zeros a : ℕ) (n : Node) → recordOf a (grown childOf rs) ≡ standing n
-      → (recordIn (addresses (grown childOf rs) ++ replicate zeros 0) a .found ≡ true)
-      × ((kind : Kind) → count kind (recordIn (addresses (grown childOf rs) ++ replicate zeros 0) a .node) ≡ count kind n)
-  pub noNode : (rs : List Request) (zeros a : ℕ)
-      → (recordIn (addresses (grown childOf rs) ++ replicate zeros 0) a .found ≡ false) ↔ (InTree a (grown childOf rs) → ⊥)
+  -- "recovered nodes have 64 and 64"
+  pub itsLimits : (words : List ℕ) (a : ℕ) (kind : Kind) → recordIn words a .found ≡ true → limit kind (recordIn words a .node) ≡ 64
+  -- of the words that recovery leaves: the tree's own record, by its address and its counts; where no limit was set, that record itself
+  pub ofATree : (es : List Event) (zeros a : ℕ) (n : Node) → recordOf a (grown childOf setLimit es) ≡ standing n
+      → (recordIn (addresses (grown childOf setLimit es) ++ replicate zeros 0) a .found ≡ true)
+      × (recordIn (addresses (grown childOf setLimit es) ++ replicate zeros 0) a .node ≡ recovered n)
+  pub ofRequests : (rs : List Request) (zeros a : ℕ) (n : Node) → recordOf a (grown childOf setLimit (map asking rs)) ≡ standing n
+      → recordIn (addresses (grown childOf setLimit (map asking rs)) ++ replicate zeros 0) a .node ≡ n
+  pub noNode : (es : List Event) (zeros a : ℕ)
+      → (recordIn (addresses (grown childOf setLimit es) ++ replicate zeros 0) a .found ≡ false) ↔ (InTree a (grown childOf setLimit es) → ⊥)
 
 -- the refusals, with what is left beside them and without them, leave one recovery and one writer: whatever answers or leaves otherwise anywhere is
 -- excluded

@@ -1,6 +1,6 @@
 -- Request Five: limits per node. What a limit makes of a record stands with the record (Addresses), 15 with the refusals of a child (Demand1), and a
 -- list of demand 3 holds settings (Demand3). Here are the settings themselves, what the code of Five promises, and the wrong rules.
-use Prim.Native.Nat.{ℕ, _^_, _<_, _≤_}
+use Prim.Native.Nat.{ℕ, _^_, _<_}
 use mathlib.Core.Path.{_≡_}
 use mathlib.Core.Bool.{true}
 use mathlib.Core.Logic.{_⊎_, _↔_}
@@ -11,7 +11,7 @@ use Rattle.address.specs.declared.Kind.{Kind}
 use Rattle.address.specs.declared.Kind.the-variants.{Router, Host}
 use Rattle.node.specs.declared.Node.{Node}
 use Rattle.node.specs.declared.Limited.{Limited}
-use Rattle.node.specs.Node.{addressIn, fresh, withCounts, count, limit, withLimits, withLimit, isGood, refuseChild, childOf, refuseSetting, setLimit}
+use Rattle.node.specs.Node.{addressIn, fresh, withCounts, count, limit, withLimits, isGood, refuseChild, childOf, refuseSetting, setLimit}
 use Rattle.node.specs.Refusals.{FitsAddress, IsGood, IsBad, ChildRefusals, SettingRefusals}
 use Rattle.node.specs.WrongRules.{pastLimit, limitless, liftsLimits, oneLimit, oneMore, limitLast, limitFirst}
 use Rattle.node.specs.WrongRules.{setsNothing, setsBelow, setsAbove, setsCut, setsBoth, setsOther, mendsRecord}

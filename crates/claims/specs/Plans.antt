@@ -5,11 +5,11 @@ use mathlib.Core.Logic.{_⊎_, _↔_}
 use mathlib.Core.List.{List, [], _∷_, _++_, map, List·Memᴰ}
 use lib.ListN.{length, take, drop}
 use Rattle.address.specs.declared.Kind.the-variants.{Router, Host}
-use Rattle.node.specs.Node.{addressIn, fresh, childOf}
+use Rattle.node.specs.Node.{addressIn, fresh, childOf, setLimit}
 use Rattle.node.specs.declared.Node.{Node}
 use Rattle.node.specs.declared.Given.{Given}
 use Rattle.packet.specs.Packet.{packetHop}
-use Rattle.tree.specs.Tree.{request, bareRoot, replied, grow, grown, addresses, AllDiffer}
+use Rattle.tree.specs.Tree.{request, asking, bareRoot, replied, grow, grown, addresses, AllDiffer}
 use Rattle.tree.specs.Demand3.{Demand3}
 use Rattle.plan.specs.Grammar.{Items, none, host, router, itemsText, planText, groupsOpen, Spells, IsText, IsStart, Stops}
 use Rattle.plan.specs.Hall.{answers, hall, nodes}
@@ -75,10 +75,10 @@ pub record TheHall : Type 0 where
   -- a request is answered 3 there exactly if one is replied 3 in the tree
   pub refusedInBoth : (plan : Items)
       → List·Memᴰ 3 (map (λ (g : Given). g .refusal) (answers (fresh 1) plan))
-      ↔ List·Memᴰ (replied 3 0) (grow childOf bareRoot (requests plan) .replies)
+      ↔ List·Memᴰ (replied 3 0) (grow childOf setLimit bareRoot (map asking (requests plan)) .replies)
   -- and these are the addresses of the tree that the requests grow, in the order given, where none is too long
-  pub isATree : (plan : Items) → (List·Memᴰ (replied 3 0) (grow childOf bareRoot (requests plan) .replies) → ⊥)
-      → hall plan ≡ addresses (grown childOf (requests plan))
+  pub isATree : (plan : Items) → (List·Memᴰ (replied 3 0) (grow childOf setLimit bareRoot (map asking (requests plan)) .replies) → ⊥)
+      → hall plan ≡ addresses (grown childOf setLimit (map asking (requests plan)))
   -- "`R(R(H)H)` gives 1, 10, 101, 11."
   pub example : planning (82 ∷ 40 ∷ 82 ∷ 40 ∷ 72 ∷ 41 ∷ 72 ∷ 41 ∷ []) (0 ∷ 0 ∷ 0 ∷ 0 ∷ 7 ∷ [])
       ≡ record { answer = record { refusal = 0; nodes = 4; place = 0 }; words = 0b1 ∷ 0b10 ∷ 0b101 ∷ 0b11 ∷ 7 ∷ [] }
@@ -88,10 +88,10 @@ pub record AHall (text words words′ : List ℕ) (many : ℕ) : Type 0 where
   pub plan : Items
   pub spelt : Spells text plan
   pub number : many ≡ nodes plan
-  pub listed : take many words′ ≡ addresses (grown childOf (requests plan))
+  pub listed : take many words′ ≡ addresses (grown childOf setLimit (map asking (requests plan)))
   pub behind : drop many words′ ≡ drop many words
   pub differ : AllDiffer (take many words′)
-  pub demand3 : Demand3 childOf packetHop (requests plan)
+  pub demand3 : Demand3 childOf setLimit packetHop (map asking (requests plan))
 
 pub record WhatIsRead : Type 0 where
   pub aHall : (text words : List ℕ) → planning text words .answer .refusal ≡ 0
@@ -100,4 +100,4 @@ pub record WhatIsRead : Type 0 where
   pub tooLong : (text words : List ℕ)
       → (planning text words .answer .refusal ≡ 3)
       ↔ ((length text ≤ 4096)
-      × ((plan : Items) × Spells text plan × ((nodes plan ≤ 512) × List·Memᴰ (replied 3 0) (grow childOf bareRoot (requests plan) .replies))))
+      × ((plan : Items) × Spells text plan × ((nodes plan ≤ 512) × List·Memᴰ (replied 3 0) (grow childOf setLimit bareRoot (map asking (requests plan)) .replies))))

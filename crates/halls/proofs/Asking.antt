@@ -3,13 +3,11 @@
 -- nothing.
 use Prim.Native.Nat.{ℕ}
 use mathlib.Core.Path.{_≡_, refl, sym, ap, _∙_}
-use mathlib.Core.Bool.{false}
 use mathlib.Core.Logic.{⊎-elim}
 use mathlib.Core.List.{[], _∷_, _++_}
 use native.Mathlib.Omega.{arith}
 use borrow.Author.Tests.{ne-eqb}
 use Rattle.address.specs.Bits.{number, root}
-use Rattle.address.specs.Address.{isHost}
 use Rattle.address.specs.declared.Kind.{Kind}
 use Rattle.address.specs.declared.Kind.the-variants.{Router}
 use Rattle.node.specs.Node.{addressIn, addressAt, fresh, raised, childBits, refuseChild, childOf}
@@ -24,20 +22,20 @@ use Rattle.tree.proofs.Runs.{ask-given, ask-refused, ask-nobody, replies-standi
 use Rattle.tree.proofs.Growth.{is-new, recordOf-asked, recordOf-new, recordOf-other}
 use Rattle.plan.specs.Hall.{childIn, refusalOf}
 use Rattle.halls.specs.Halls.{replyOf}
-use Rattle.plan.proofs.Inner.{Inner, inner-root, inner-gives, inner-refusal, inner-child}
+use Rattle.plan.proofs.Inner.{Inner, inner-root, inner-gives, inner-refusal, inner-next, inner-child}
 
--- a group's node: it stands in the tree with this record, and is the root or a router; or it was refused
+-- a group's node: it stands in the tree with this record, the root's or a router's without a cap; or it was refused
 pub data Open (n : Node) (t : Tree) : Type 0 where
-  stands : recordOf (addressIn n) t ≡ standing n → isHost (addressIn n) ≡ false → Open n t
+  stands : recordOf (addressIn n) t ≡ standing n → Inner n → Open n t
   refused : addressIn n ≡ 0 → Open n t
 
 -- the same, by the address that the record is of
-open-at : (a : ℕ) (n : Node) (t : Tree) → addressIn n ≡ a → recordOf a t ≡ standing n → isHost (addressIn n) ≡ false → Open n t
-open-at a n t own e noHost = stands (ap (λ (x : ℕ). recordOf x t) own ∙ e) noHost
+open-at : (a : ℕ) (n : Node) (t : Tree) → addressIn n ≡ a → recordOf a t ≡ standing n → Inner n → Open n t
+open-at a n t own e inner = stands (ap (λ (x : ℕ). recordOf x t) own ∙ e) inner
 
 pub open-root : Open (fresh root) bareRoot
 unfolding bareRoot
-open-root = stands (recordOf-single (fresh root) refl) (inner-root .noHost)
+open-root = stands (recordOf-single (fresh root) refl) inner-root
 
 -- every record but that of the address a stays from a tree to another
 abbrev pub Stays : ℕ → Tree → Tree → Type 0
@@ -65,22 +63,16 @@ module _ (t : Tree) (s : Sound t) where
   }
 
   module _ (n : Node) (kind : Kind) where
-    module _ (e : recordOf (addressIn n) t ≡ standing n) (noHost : isHost (addressIn n) ≡ false) where
-      inner : Inner n
-      inner = record { good = s .good (addressIn n) n e; noHost = noHost; address = s .address (addressIn n) (inTree-recordOf (addressIn n) n t e) }
-
-      -- nor is a router child
-      no-host : (may : MayGive n kind) → kind ≡ Router → isHost (addressIn (fresh (number (childBits n kind)))) ≡ false
-      no-host may k = rw (childOf-given may) at (inner-child kind inner (ap refusalOf (childOf-given may)) k .noHost)
-
+    module _ (e : recordOf (addressIn n) t ≡ standing n) (inner : Inner n) where
       asked-given : (may : MayGive n kind)
           → Asked n kind t (record { node = raised kind n; child = addressAt (number (childBits n kind)); refusal = 0 })
           (replaced (addressIn n) (raised kind n) t ++ (fresh (number (childBits n kind)) ∷ []))
       asked-given may = record {
         own = open-at (addressIn n) (raised kind n) _ (addressIn-raised kind n) (recordOf-asked t s (addressIn n) n e kind may)
-            (rw (addressIn-raised kind n) noHost);
+            (rw (childOf-given may) at (inner-next kind inner));
         child = λ k. open-at (number (childBits n kind)) (fresh (number (childBits n kind))) _ (addressIn-fresh (number (childBits n kind)))
-            (recordOf-new t s (addressIn n) n e kind may) (no-host may k);
+            (recordOf-new t s (addressIn n) n e kind may)
+            (rw (childOf-given may) at (inner-child kind inner (ap refusalOf (childOf-given may)) k));
         others = λ x m ne r. recordOf-other t s (addressIn n) n e kind may x (λ q. ne (sym q)) (inTree-recordOf x m t r) ∙ r;
         new = is-new t s (addressIn n) n e kind may;
       }
@@ -111,16 +103,16 @@ module _ (t : Tree) (s : Sound t) where
       nobody-there = recordOf-absent (addressIn n) t (λ i. no-zero (rw z at i))
 
     pub asked : Open n t → Asked n kind t (childOf n kind) (ask childOf t (request (addressIn n) kind) .tree)
-    asked (stands e noHost) =
+    asked (stands e inner) =
         ⊎-elim
-        (λ (may : MayGive n kind). rw (tree-given e noHost may, childOf-given may) (asked-given e noHost may))
-        (λ (r : childOf n kind ≡ refuseChild 3 n). rw (tree-refused e noHost r, r) (asked-refused n kind 3 (stands e noHost)))
-        (inner-gives kind (inner e noHost))
+        (λ (may : MayGive n kind). rw (tree-given e inner may, childOf-given may) (asked-given e inner may))
+        (λ (r : childOf n kind ≡ refuseChild 3 n). rw (tree-refused e inner r, r) (asked-refused n kind 3 (stands e inner)))
+        (inner-gives kind inner)
     asked (refused z) = rw (ask-nobody childOf t (addressIn n) kind (nobody-there z), bad z) (asked-refused n kind 1 (refused z))
 
     pub replies-asked : Open n t → ask childOf t (request (addressIn n) kind) .replies ≡ replyOf (childOf n kind) ∷ []
     unfolding replyOf refuseChild
-    replies-asked (stands e noHost) =
-        replies-standing childOf t (addressIn n) kind n e ∙ rw (ne-eqb (childOf n kind .refusal) 1 (heard e noHost))
+    replies-asked (stands e inner) =
+        replies-standing childOf t (addressIn n) kind n e ∙ rw (ne-eqb (childOf n kind .refusal) 1 (heard e inner))
     replies-asked (refused z) =
         replies-absent childOf t (addressIn n) kind (nobody-there z) ∙ ap (λ (g : Given). replyOf g ∷ []) (sym (bad z))

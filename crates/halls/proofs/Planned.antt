@@ -1,18 +1,18 @@
 -- Every plan's requests, run from the root alone, are answered as its items are, so their tree is the plan's hall where no address is too long;
--- and demand 3 holds of every list of requests. Assumes nothing.
+-- and demand 3 holds of every list of requests and settings. Assumes nothing.
 use Prim.Native.Nat.{ℕ}
 use mathlib.Core.Path.{_≡_, sym, ap, subst, _∙_}
 use mathlib.Core.Logic.{_↔_}
 use mathlib.Core.List.{List, _∷_, map, List·Memᴰ}
 use Rattle.address.specs.Bits.{root}
-use Rattle.node.specs.Node.{fresh, childOf}
+use Rattle.node.specs.Node.{fresh, childOf, setLimit}
 use Rattle.tree.specs.Tree.{bareRoot, Reply, replied, grown, addresses, givenBy, givenIn}
 use Rattle.tree.proofs.Growth.{sound-bareRoot}
 use Rattle.tree.proofs.Theorem.{demand-3}
 use Rattle.plan.specs.Grammar.{Items}
 use Rattle.plan.specs.Hall.{answers, hall, SomeTooLong}
 use Rattle.plan.proofs.Answers.{length-hall}
-use Rattle.halls.specs.Requests.{requests}
+use Rattle.halls.specs.Requests.{requests, events}
 use Rattle.halls.specs.Halls.{replyOf, repliesTo, SomeRepliedThree, PlannedHalls}
 use Rattle.halls.proofs.Asking.{open-root}
 use Rattle.halls.proofs.Running.{run}
@@ -29,10 +29,10 @@ module _ (plan : Items) where
   tooLong-plan =
       subst (λ (rs : List Reply). SomeTooLong plan ↔ List·Memᴰ (replied 3 0) rs) (sym replies-plan) (three-refused plan (fresh root))
 
-  tree-plan : (SomeTooLong plan → ⊥) → hall plan ≡ addresses (grown childOf (requests plan))
+  tree-plan : (SomeTooLong plan → ⊥) → hall plan ≡ addresses (grown childOf setLimit (events plan))
   unfolding hall givenIn repliesTo
   tree-plan free =
-      sym (demand-3 (requests plan) .nodes ∙ ap (λ (rs : List Reply). root ∷ givenBy rs) replies-plan
+      sym (demand-3 (events plan) .nodes ∙ ap (λ (rs : List Reply). root ∷ givenBy rs) replies-plan
       ∙ ap (λ (l : List ℕ). root ∷ l) (givenBy-answers plan free))
 
 pub planned-halls : PlannedHalls
@@ -42,5 +42,5 @@ planned-halls = record {
   tooLong = tooLong-plan;
   tree = tree-plan;
   counted = λ plan. (nodes-letters plan, length-hall plan);
-  demand3 = λ plan. demand-3 (requests plan);
+  demand3 = λ plan. demand-3 (events plan);
 }

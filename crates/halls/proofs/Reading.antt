@@ -14,7 +14,7 @@ use Rattle.plan.specs.Refusals.{PlanOf, PlanRefusals}
 use Rattle.plan.proofs.Answers.{length-hall}
 use Rattle.plan.proofs.RefusalLaws.{written, End, manyBytes, outside, manyNodes, tooLong, noRoom, fits, planning-end}
 use Rattle.plan.proofs.OneRule.{only-end, one-rule}
-use Rattle.halls.specs.Requests.{requests}
+use Rattle.halls.specs.Requests.{events}
 use Rattle.halls.specs.Halls.{SomeRepliedThree}
 use Rattle.halls.specs.HallsRead.{addressesOf, HallListed, HallsRead}
 use Rattle.halls.proofs.Planned.{planned-halls}
@@ -28,7 +28,7 @@ listed-hall plan effect words free number put =
     record {
       number = number ∙ many;
       listed = put ∙ ap₂ (λ (l : List ℕ) (k : ℕ). l ++ drop k words) tree many;
-      demand3 = demand-3 (requests plan);
+      demand3 = demand-3 (events plan);
     }
 
 module _ {text words : List ℕ} where

@@ -2,11 +2,11 @@
 use mathlib.Core.Path.{_≡_}
 use mathlib.Core.List.{[], _∷_}
 use Rattle.address.specs.declared.Kind.the-variants.{Router, Host}
-use Rattle.node.specs.Node.{childOf}
+use Rattle.node.specs.Node.{childOf, setLimit}
 use Rattle.tree.specs.Tree.{request, grown, addresses}
 use Rattle.plan.specs.Grammar.{Items, none, host, router, letterR, letterH, opening, closing, planText}
 use Rattle.plan.specs.Hall.{hall}
-use Rattle.halls.specs.Requests.{requests}
+use Rattle.halls.specs.Requests.{requests, events}
 
 -- a router with a host in its group, and a host behind it
 unfoldable pub small : Items
@@ -16,4 +16,4 @@ pub record SmallHall : Type 0 where
   pub text : planText small ≡ letterR ∷ opening ∷ letterR ∷ opening ∷ letterH ∷ closing ∷ letterH ∷ closing ∷ []
   pub asks : requests small ≡ request 0b1 Router ∷ request 0b10 Host ∷ request 0b1 Host ∷ []
   pub listed : hall small ≡ 0b1 ∷ 0b10 ∷ 0b101 ∷ 0b11 ∷ []
-  pub grows : addresses (grown childOf (requests small)) ≡ 0b1 ∷ 0b10 ∷ 0b101 ∷ 0b11 ∷ []
+  pub grows : addresses (grown childOf setLimit (events small)) ≡ 0b1 ∷ 0b10 ∷ 0b101 ∷ 0b11 ∷ []

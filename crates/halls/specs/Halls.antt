@@ -10,14 +10,14 @@ use Rattle.address.specs.Choice.{if_then_else_}
 use Rattle.address.specs.Bits.{root}
 use Rattle.address.specs.declared.Kind.{Kind}
 use Rattle.address.specs.declared.Kind.the-variants.{Router, Host}
-use Rattle.node.specs.Node.{fresh, childOf}
+use Rattle.node.specs.Node.{fresh, childOf, setLimit}
 use Rattle.node.specs.declared.Given.{Given}
 use Rattle.packet.specs.Packet.{packetHop}
 use Rattle.tree.specs.Tree.{Request, request, bareRoot, Reply, replied, nobody, grow, grown, addresses}
 use Rattle.tree.specs.Demand3.{Demand3}
 use Rattle.plan.specs.Grammar.{Items, letterR, letterH, planText}
 use Rattle.plan.specs.Hall.{childIn, answers, hall, nodes, SomeTooLong}
-use Rattle.halls.specs.Requests.{requests}
+use Rattle.halls.specs.Requests.{requests, events}
 
 unfoldable pub kindOf : Request → Kind
 kindOf (request a kind) = kind
@@ -37,7 +37,7 @@ replyOf g = if eqb (g .refusal) 1 then nobody else replied (g .refusal) (childIn
 
 -- what the requests of a plan are answered, one after the other from the root alone
 unfoldable pub repliesTo : Items → List Reply
-repliesTo plan = grow childOf bareRoot (requests plan) .replies
+repliesTo plan = grow childOf setLimit bareRoot (events plan) .replies
 
 -- "an address too long": some request of the plan is refused with 3, and "a refused one gives no address"
 abbrev pub SomeRepliedThree : Items → Type 0
@@ -51,8 +51,8 @@ pub record PlannedHalls : Type 0 where
   -- "an address too long": one of these requests is refused with 3
   pub tooLong : (plan : Items) → SomeTooLong plan ↔ SomeRepliedThree plan
   -- "The addresses in that order, the root first": those of the tree that grows by the requests, if none is too long
-  pub tree : (plan : Items) → (SomeTooLong plan → ⊥) → hall plan ≡ addresses (grown childOf (requests plan))
+  pub tree : (plan : Items) → (SomeTooLong plan → ⊥) → hall plan ≡ addresses (grown childOf setLimit (events plan))
   -- "their number", "the root counted": a plan has as many nodes as its text has letters, and as many addresses
   pub counted : (plan : Items) → (nodes plan ≡ length (letters (planText plan))) × (length (hall plan) ≡ nodes plan)
   -- the tree of every plan has demand 3
-  pub demand3 : (plan : Items) → Demand3 childOf packetHop (requests plan)
+  pub demand3 : (plan : Items) → Demand3 childOf setLimit packetHop (events plan)

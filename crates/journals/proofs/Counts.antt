@@ -1,5 +1,6 @@
--- The children among the addresses of a grown tree are those that the records count: the bare root has none, and a child given is one more of its
--- kind among the addresses and in the record of the node that is its parent, and in no other. Assumes nothing.
+-- The children among the addresses of a grown tree are those that the records count: the bare root has none, a child given is one more of its
+-- kind among the addresses and in the record of the node that is its parent, and in no other, and a setting leaves addresses and counts. Assumes
+-- nothing.
 use mathlib.Core.Path.{_≡_, refl, sym, ap, ap₂, subst, _∙_}
 use mathlib.Core.Logic.{_⊎_, inl, inr, ⊎-elim}
 use mathlib.Core.List.{List, [], _∷_, _++_, Memᴰ·cast, List·Memᴰ·eq-of-singleton}
@@ -12,16 +13,19 @@ use Rattle.address.specs.Address.{parent}
 use Rattle.address.specs.Numbers.{IsAddress}
 use Rattle.address.specs.declared.Kind.{Kind}
 use Rattle.address.proofs.Answers.{parent-small}
-use Rattle.node.specs.Node.{addressIn, fresh, count, raised, childBits, refuseChild, childOf}
+use Rattle.node.specs.Node.{addressIn, fresh, count, raised, childBits, refuseChild, childOf, setLimit}
 use Rattle.node.specs.declared.Node.{Node}
 use Rattle.node.specs.declared.Given.{Given}
 use Rattle.node.proofs.Children.{addressIn-fresh, count-fresh, addressIn-raised, count-raised, count-raised-other}
 use Rattle.node.proofs.Children.{MayGive, childOf-cases, childOf-given, steps-child, address-child, parent-child}
-use Rattle.tree.specs.Tree.{Request, request, Tree, bareRoot, Record, standing, absent, recordOf, replaced, ask, grow, grown, addresses, InTree}
+use Rattle.node.proofs.Settings.{sets-limits}
+use Rattle.tree.specs.Tree.{Request, request, Event, asking, setting, Tree, bareRoot, Record, standing, absent, recordOf, replaced}
+use Rattle.tree.specs.Tree.{ask, happen, grow, grown, addresses, InTree}
 use Rattle.tree.proofs.Sound.{Sound}
 use Rattle.tree.proofs.Trees.{inTree-recordOf, addressIn-recordOf, replaced-recordOf, addresses-replaced, addresses-append}
-use Rattle.tree.proofs.Growth.{is-new, Stands, isAsked, isNew, isOther, records, recordOf-bareRoot, inTree-bareRoot, sound-bareRoot, sound-ask}
-use Rattle.tree.proofs.Runs.{ask-given, ask-refused, ask-nobody}
+use Rattle.tree.proofs.Trees.{recordOf-replaced, recordOf-replaced-other}
+use Rattle.tree.proofs.Growth.{is-new, Stands, isAsked, isNew, isOther, records, recordOf-bareRoot, inTree-bareRoot, sound-bareRoot, sound-happen}
+use Rattle.tree.proofs.Runs.{ask-given, ask-refused, ask-nobody, set-standing, set-nobody}
 use Rattle.journal.specs.Record.{children}
 use Rattle.journals.proofs.Counting.{same-kind, children-append, children-none, children-same, children-other}
 
@@ -133,22 +137,55 @@ module _ (t : Tree) (a : ℕ) (n : Node) (stands : recordOf a t ≡ standing n) 
       ask-refused childOf t a kind n stands (λ z. omega (arith, ap (λ (g : Given). g .refusal) r))
       ∙ ap (λ (g : Given). replaced a (g .node) t) r ∙ replaced-recordOf a n t stands
 
-counted-ask : (t : Tree) (r : Request) → Sound t → Counted t → Counted (ask childOf t r .tree)
-counted-ask t (request a kind) s counted = go (recordOf a t) refl
+-- what a tree has it has after a request, if also with a child more
+pub ask-keeps : (P : Tree → Type 0) (t : Tree) (r : Request) → P t
+    → ((a : ℕ) (n : Node) → recordOf a t ≡ standing n → (kind : Kind) → MayGive n kind
+    → P (replaced a (raised kind n) t ++ (fresh (number (childBits n kind)) ∷ [])))
+    → P (ask childOf t r .tree)
+ask-keeps P t (request a kind) p given = go (recordOf a t) refl
   where
-    go : (x : Record) → recordOf a t ≡ x → Counted (ask childOf t (request a kind) .tree)
+    go : (x : Record) → recordOf a t ≡ x → P (ask childOf t (request a kind) .tree)
     go (standing n) e =
         ⊎-elim
-        (λ (may : MayGive n kind). subst Counted (sym (ask-may t a n e kind may)) (counted-given t s counted a n e kind may))
-        (λ (r : (k : ℕ) × (childOf n kind ≡ refuseChild (suc k) n)). subst Counted (sym (ask-refuses t a n e kind (r .0) (r .1))) counted)
+        (λ (may : MayGive n kind). subst P (sym (ask-may t a n e kind may)) (given a n e kind may))
+        (λ (r : (k : ℕ) × (childOf n kind ≡ refuseChild (suc k) n)). subst P (sym (ask-refuses t a n e kind (r .0) (r .1))) p)
         (childOf-cases n kind)
-    go absent e = subst Counted (sym (ask-nobody childOf t a kind e)) counted
+    go absent e = subst P (sym (ask-nobody childOf t a kind e)) p
 
-counted-grow : (t : Tree) (rs : List Request) → Sound t → Counted t → Counted (grow childOf t rs .tree)
+-- ---- settings
+
+-- another record of the same address and counts
+counted-replaced : (t : Tree) → Counted t → (a : ℕ) (n m : Node) → recordOf a t ≡ standing n → addressIn m ≡ a
+    → ((kind : Kind) → count kind m ≡ count kind n) → Counted (replaced a m t)
+counted-replaced t counted a n m stands same counts b o kind e = ap (children kind b) (addresses-replaced m same t) ∙ go (ℕ-discrete a b)
+  where
+    go : Dec (a ≡ b) → children kind b (addresses t) ≡ count kind o
+    go (yes q) =
+        let handed : o ≡ m = cc (recordOf-replaced m same t (inTree-recordOf a n t stands)) in
+        counted b n kind (ap (λ (x : ℕ). recordOf x t) (sym q) ∙ stands) ∙ sym (counts kind) ∙ ap (count kind) (sym handed)
+    go (no ne) = counted b o kind (sym (recordOf-replaced-other m same ne t) ∙ e)
+
+counted-set : (t : Tree) (a : ℕ) (kind : Kind) (k : ℕ) → Counted t → Counted (happen childOf setLimit t (setting a kind k) .tree)
+counted-set t a kind k counted = go (recordOf a t) refl
+  where
+    go : (x : Record) → recordOf a t ≡ x → Counted (happen childOf setLimit t (setting a kind k) .tree)
+    go (standing n) e =
+        subst Counted (sym (set-standing childOf setLimit t a kind k n e))
+        (counted-replaced t counted a n (setLimit n kind k .node) e (sets-limits .keepsAddress n kind k ∙ addressIn-recordOf a n t e)
+        (sets-limits .keepsCounts n kind k))
+    go absent e = subst Counted (sym (set-nobody childOf setLimit t a kind k e)) counted
+
+-- ---- a list of both
+
+counted-happen : (t : Tree) (e : Event) → Sound t → Counted t → Counted (happen childOf setLimit t e .tree)
+counted-happen t (asking r) s c = unfold happen in ask-keeps Counted t r c (counted-given t s c)
+counted-happen t (setting a kind k) s c = counted-set t a kind k c
+
+counted-grow : (t : Tree) (es : List Event) → Sound t → Counted t → Counted (grow childOf setLimit t es .tree)
 unfolding grow
 counted-grow t [] s c = c
-counted-grow t (r ∷ rs) s c = counted-grow (ask childOf t r .tree) rs (sound-ask t r s) (counted-ask t r s c)
+counted-grow t (e ∷ es) s c = counted-grow (happen childOf setLimit t e .tree) es (sound-happen t e s) (counted-happen t e s c)
 
-pub counted-grown : (rs : List Request) → Counted (grown childOf rs)
+pub counted-grown : (es : List Event) → Counted (grown childOf setLimit es)
 unfolding grown
-counted-grown rs = counted-grow bareRoot rs sound-bareRoot counted-bareRoot
+counted-grown es = counted-grow bareRoot es sound-bareRoot counted-bareRoot

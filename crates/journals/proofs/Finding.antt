@@ -1,6 +1,6 @@
 -- A node's record among the words: zeros behind the addresses are no nodes and nobody's children, so the address is found exactly if it is in the
--- tree, and the children counted are those of its record, which has at most 64 of a kind. Assumes nothing.
-use mathlib.Core.Path.{_≡_, refl, sym, ap, _∙_}
+-- tree, and the children counted are those of its record, which has at most 64 of a kind; its limits are 64 and 64. Assumes nothing.
+use mathlib.Core.Path.{_≡_, refl, sym, ap, ap₂, _∙_}
 use mathlib.Core.Bool.{Bool, true, false, true≢false}
 use mathlib.Core.Logic.{_⊎_, inl, inr, ⊎-elim, _↔_}
 use mathlib.Core.List.{List, _++_, List·Memᴰ, List·Memᴰ·cases-cons, List·Memᴰ·not-nil, List·Memᴰ·append-cases, Memᴰ·append-left}
@@ -12,15 +12,15 @@ use Rattle.address.specs.Address.{isHost, parent}
 use Rattle.address.specs.declared.Kind.{Kind}
 use Rattle.address.specs.declared.Kind.the-variants.{Router, Host}
 use Rattle.address.proofs.Answers.{parent-small}
-use Rattle.node.specs.Node.{addressIn, fresh, withCounts, count, isGood}
+use Rattle.node.specs.Node.{addressIn, fresh, withCounts, count, isGood, noCap, limit}
 use Rattle.node.specs.declared.Node.{Node}
 use Rattle.node.proofs.Children.{count-host, count-le}
 use Rattle.tree.specs.Tree.{Tree, standing, recordOf, addresses, InTree}
 use Rattle.tree.proofs.Sound.{Sound}
-use Rattle.tree.proofs.Trees.{inTree-recordOf}
+use Rattle.tree.proofs.Trees.{inTree-recordOf, addressIn-recordOf}
 use Rattle.journal.specs.Replay.{among}
 use Rattle.journal.specs.Record.{children, mostCounted, recordIn}
-use Rattle.journals.specs.Replays.{zerosBehind}
+use Rattle.journals.specs.Replays.{recovered, zerosBehind}
 use Rattle.journals.proofs.Among.{among-mem, among-not, among-true, among-false}
 use Rattle.journals.proofs.Counting.{children-append, children-none}
 use Rattle.journals.proofs.Counts.{Counted}
@@ -44,19 +44,18 @@ module _ (ws : List ℕ) (zeros a : ℕ) (some : a ≡ 0 → ⊥) where
 -- ---- a record
 
 module _ (words : List ℕ) (a : ℕ) where
+  -- the children among the words, by a count of one octet, and 64 and 64
+  abbrev nodeFound : Node
+  nodeFound = withCounts (min (children Router a words) mostCounted) (min (children Host a words) mostCounted) (fresh a)
+
   module _ (some : a ≡ 0 → ⊥) (there : among a words ≡ true) where
     found-there : recordIn words a .found ≡ true
     unfolding recordIn
     found-there = rw (ne-eqb a 0 some, there)
 
-    addressIn-there : addressIn (recordIn words a .node) ≡ a
-    unfolding recordIn withCounts fresh
-    addressIn-there = rw (ne-eqb a 0 some, there)
-
-    count-there : (kind : Kind) → count kind (recordIn words a .node) ≡ min (children kind a words) mostCounted
-    unfolding recordIn withCounts count
-    count-there Router = rw (ne-eqb a 0 some, there)
-    count-there Host = rw (ne-eqb a 0 some, there)
+    node-there : recordIn words a .node ≡ nodeFound
+    unfolding recordIn
+    node-there = rw (ne-eqb a 0 some, there)
 
   found-zero : a ≡ 0 → recordIn words a .found ≡ false
   unfolding recordIn
@@ -100,14 +99,30 @@ module _ (words : List ℕ) (a : ℕ) where
       back (notThere (inl z) e n) h = absurd (h .0 z)
       back (notThere (inr out) e n) h = absurd (among-false a words out (h .1))
 
+  pub found-node : recordIn words a .found ≡ true → recordIn words a .node ≡ nodeFound
+  found-node f = go finds
+    where
+      go : Finds → recordIn words a .node ≡ nodeFound
+      go (there some e) = node-there some e
+      go (notThere out e n) = absurd (true≢false (sym f ∙ e))
+
   pub found-counts : recordIn words a .found ≡ true
       → (addressIn (recordIn words a .node) ≡ a) × ((kind : Kind) → count kind (recordIn words a .node) ≡ min (children kind a words) mostCounted)
-  found-counts f = go finds
+  found-counts f = (ap addressIn (found-node f) ∙ own, λ kind. ap (count kind) (found-node f) ∙ counts kind)
     where
-      go : Finds
-          → (addressIn (recordIn words a .node) ≡ a) × ((kind : Kind) → count kind (recordIn words a .node) ≡ min (children kind a words) mostCounted)
-      go (there some e) = (addressIn-there some e, λ kind. count-there some e kind)
-      go (notThere out e n) = absurd (true≢false (sym f ∙ e))
+      own : addressIn nodeFound ≡ a
+      own = unfold withCounts fresh in refl
+
+      counts : (kind : Kind) → count kind nodeFound ≡ min (children kind a words) mostCounted
+      counts Router = unfold withCounts count in refl
+      counts Host = unfold withCounts count in refl
+
+  pub found-limits : (kind : Kind) → recordIn words a .found ≡ true → limit kind (recordIn words a .node) ≡ noCap
+  found-limits kind f = ap (limit kind) (found-node f) ∙ limits kind
+    where
+      limits : (kind : Kind) → limit kind nodeFound ≡ noCap
+      limits Router = unfold withCounts fresh limit in refl
+      limits Host = unfold withCounts fresh limit in refl
 
   pub node-notFound : recordIn words a .found ≡ false → recordIn words a .node ≡ fresh 0
   node-notFound f = go finds
@@ -136,16 +151,16 @@ module _ (t : Tree) (s : Sound t) (counted : Counted t) (zeros a : ℕ) where
   among-inTree : InTree a t → among a words ≡ true
   among-inTree i = among-mem a words (Memᴰ·append-left (zerosBehind zeros) i)
 
-  pub recordIn-found : (n : Node) → recordOf a t ≡ standing n
-      → (recordIn words a .found ≡ true) × (addressIn (recordIn words a .node) ≡ a)
-      × ((kind : Kind) → count kind (recordIn words a .node) ≡ count kind n)
+  pub recordIn-found : (n : Node) → recordOf a t ≡ standing n → (recordIn words a .found ≡ true) × (recordIn words a .node ≡ recovered n)
+  unfolding recovered
   recordIn-found n stands =
       let i = inTree-recordOf a n t stands in
-      let some = some-inTree i in (
+      let some = some-inTree i in
+      let counts : (kind : Kind) → min (children kind a words) mostCounted ≡ count kind n = λ kind.
+      omega (arith, children-zeros (addresses t) zeros a some kind, counted a n kind stands, count-le-most n (s .good a n stands) kind) in (
         found-there words a some (among-inTree i),
-        addressIn-there words a some (among-inTree i),
-        λ kind. count-there words a some (among-inTree i) kind
-            ∙ omega (arith, children-zeros (addresses t) zeros a some kind, counted a n kind stands, count-le-most n (s .good a n stands) kind),
+        node-there words a some (among-inTree i) ∙ ap₂ (λ (r h : ℕ). withCounts r h (fresh a)) (counts Router) (counts Host)
+            ∙ ap (λ (x : ℕ). withCounts (count Router n) (count Host n) (fresh x)) (sym (addressIn-recordOf a n t stands)),
       )
 
   pub recordIn-absent : (recordIn words a .found ≡ false) ↔ (InTree a t → ⊥)

@@ -1,12 +1,14 @@
 -- The laws of the journals crate.
 pub mod Before
 pub mod Among
+pub mod Recovered
 pub mod NextChild
 pub mod Taking
-pub mod Outcomes
-pub mod GivenReplayed
 pub mod Counting
 pub mod Counts
+pub mod Free
+pub mod Outcomes
+pub mod GivenReplayed
 pub mod Finding
 pub mod SlotTests
 pub mod SlotReplays

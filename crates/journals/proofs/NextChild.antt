@@ -1,6 +1,6 @@
 -- The next child of a tree that is sound: an address whose last step is the child i of a node has the address before it in the tree exactly if
 -- the node is there with i children of the kind or more, and is itself not there exactly if it has no more. So it is the child that the node
--- gives next. Assumes nothing.
+-- gives next, by its address and counts. Assumes nothing.
 use mathlib.Core.Path.{_≡_, refl, sym, ap, ap₂, subst, _∙_}
 use mathlib.Core.Bool.{true}
 use mathlib.Core.Logic.{⊎-elim, _↔_}
@@ -23,14 +23,14 @@ use Rattle.node.specs.Node.{addressIn, count, childBits}
 use Rattle.node.specs.declared.Node.{Node}
 use Rattle.node.specs.declared.Given.{Given}
 use Rattle.node.proofs.ChildLaws.{length-childBits}
-use Rattle.node.proofs.Children.{MayGive, mayGive, childOf-given, steps-child, address-child}
+use Rattle.node.proofs.Children.{below-noCap, MayGive, mayGive, childOf-given, steps-child, address-child}
 use Rattle.tree.specs.Tree.{Tree, standing, recordOf, addresses, InTree}
 use Rattle.tree.proofs.Sound.{Sound}
 use Rattle.tree.proofs.Trees.{inTree-recordOf, addressIn-recordOf, recordOf-inTree}
-use Rattle.tree.proofs.Growth.{is-new}
 use Rattle.journal.specs.Replay.{before, isNext}
-use Rattle.journals.specs.Replays.{IsNextChild}
+use Rattle.journals.specs.Replays.{recovered, IsNextChild}
 use Rattle.journals.proofs.Among.{isNext-true, isNext-known}
+use Rattle.journals.proofs.Recovered.{addressIn-recovered, count-recovered, limit-recovered, isGood-recovered}
 use Rattle.journals.proofs.Before.{above-root, before-zero, before-first, before-further}
 
 -- an address and its last step: the child i of a kind of the node whose steps are the others
@@ -73,19 +73,22 @@ module _ (t : Tree) (s : Sound t) where
             let same : steps a ≡ steps d = e ∙ ap (λ (l : List Step). child kind i ∷ l) (sym (steps-up h kind i up e)) ∙ sym f in
             out (Memᴰ·cast (steps-injective h (s .address d m) same) m)
 
-    may-give : (n : Node) → recordOf (addressOf up) t ≡ standing n → count kind n ≡ i → MayGive n kind
+    -- by its address and counts it may give the child
+    may-give : (n : Node) → recordOf (addressOf up) t ≡ standing n → count kind n ≡ i → MayGive (recovered n) kind
     unfolding bitLength
     may-give n stands c =
-        let own = addressIn-recordOf (addressOf up) n t stands in
+        let own = addressIn-recovered n ∙ addressIn-recordOf (addressOf up) n t stands in
+        let good = isGood-recovered n (s .good (addressOf up) n stands) in
         let above = steps-up h kind i up e in
         let same = ap bitLength own in
         let long = ap length (spelled-steps (address-up h kind i up e)) in
         let longer = ap (λ (ss : List Step). length (spelled ss)) above in
         record {
-          good = s .good (addressOf up) n stands;
+          good = good;
           inner = ap isHost own ∙ isHost-steps (address-up h kind i up e)
               ∙ hostLast-routers (steps (addressOf up)) (subst AllRouters (sym above) (routers-up h kind i up e));
-          short = omega (arith, length-childBits n kind, length-spelled kind i up, short-last h kind i up e);
+          below = below-noCap (recovered n) good (subst IsAddress (sym own) (address-up h kind i up e)) kind (limit-recovered n kind);
+          short = omega (arith, length-childBits (recovered n) kind, count-recovered n kind, length-spelled kind i up, short-last h kind i up e);
         }
 
     -- it is the child that the node gives next
@@ -93,9 +96,10 @@ module _ (t : Tree) (s : Sound t) where
     next-child n stands c =
         let may = may-give n stands c in
         let own = addressIn-recordOf (addressOf up) n t stands in
-        let address-own : IsAddress (addressIn n) = rw own (address-up h kind i up e) in
-        let same : child kind (count kind n) ∷ steps (addressIn n) ≡ steps a =
-        ap₂ (λ (k : ℕ) (l : List Step). child kind k ∷ l) c (ap steps own ∙ steps-up h kind i up e) ∙ sym e in
+        let there = addressIn-recovered n ∙ own in
+        let address-own : IsAddress (addressIn (recovered n)) = subst IsAddress (sym there) (address-up h kind i up e) in
+        let same : child kind (count kind (recovered n)) ∷ steps (addressIn (recovered n)) ≡ steps a =
+        ap₂ (λ (k : ℕ) (l : List Step). child kind k ∷ l) (count-recovered n kind ∙ c) (ap steps there ∙ steps-up h kind i up e) ∙ sym e in
         record {
           node = n;
           kind = kind;
@@ -150,10 +154,10 @@ module _ (t : Tree) (s : Sound t) where
     abbrev asked : ℕ
     asked = addressIn (c .node)
 
-    given-may : MayGive (c .node) (c .kind)
-    given-may = mayGive (c .node) (c .kind) (c .given)
+    given-may : MayGive (recovered (c .node)) (c .kind)
+    given-may = mayGive (recovered (c .node)) (c .kind) (c .given)
 
-    is-given : number (childBits (c .node) (c .kind)) ≡ a
+    is-given : number (childBits (recovered (c .node)) (c .kind)) ≡ a
     is-given = sym (ap (λ (g : Given). g .child .number) (childOf-given given-may)) ∙ c .child
 
     inTree-asked : InTree asked t
@@ -162,11 +166,16 @@ module _ (t : Tree) (s : Sound t) where
     address-asked : IsAddress asked
     address-asked = s .address asked inTree-asked
 
+    address-recovered : IsAddress (addressIn (recovered (c .node)))
+    address-recovered = subst IsAddress (sym (addressIn-recovered (c .node))) address-asked
+
     pub address-next : IsAddress a
-    address-next = subst IsAddress is-given (address-child given-may address-asked)
+    address-next = subst IsAddress is-given (address-child given-may address-recovered)
 
     steps-given : steps a ≡ child (c .kind) (count (c .kind) (c .node)) ∷ steps asked
-    steps-given = ap steps (sym is-given) ∙ steps-child given-may address-asked
+    steps-given =
+        ap steps (sym is-given) ∙ steps-child given-may address-recovered
+        ∙ ap₂ (λ (k b : ℕ). child (c .kind) k ∷ steps b) (count-recovered (c .node) (c .kind)) (addressIn-recovered (c .node))
 
     pub inTree-before : InTree (before a) t
     inTree-before = go (count (c .kind) (c .node)) refl steps-given
@@ -179,7 +188,7 @@ module _ (t : Tree) (s : Sound t) where
             Memᴰ·cast (before-some address-next (c .kind) (suc j) (steps asked) e j refl ∙ ap addressOf (sym f) ∙ addressOf-steps (s .address d m)) m
 
     pub not-inTree : InTree a t → ⊥
-    not-inTree i = is-new t s asked (c .node) (c .stands) (c .kind) given-may (Memᴰ·cast is-given i)
+    not-inTree i = omega (arith, s .counted asked a (c .node) (c .kind) (count (c .kind) (c .node)) (c .stands) i steps-given)
 
   -- the two look-ups decide it
   pub isNext-sound : (a : ℕ) → a < 2 ^ longest → (isNext (addresses t) a ≡ true) ↔ IsNextChild t a

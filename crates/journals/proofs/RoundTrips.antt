@@ -1,13 +1,13 @@
 -- Blocks written one after the other: each is accepted, since its addresses are next children and a slot is left, so by induction on the blocks
--- the journal comes to all their addresses; those of a list of requests are such. Assumes nothing.
+-- the journal comes to all their addresses; those of a list of requests and settings are such. Assumes nothing.
 use Prim.Native.Nat.{ℕ, suc, _+_, _^_, _≤_, _<_}
 use mathlib.Core.Path.{_≡_, refl, sym, ap, ap₂, subst, _∙_}
 use mathlib.Core.List.{List, [], _∷_, _++_, List·Memᴰ, List·Memᴰ·head, List·Memᴰ·tail}
 use native.Mathlib.Omega.{arith}
 use lib.ListN.{length, length-append}
-use Rattle.node.specs.Node.{childOf}
+use Rattle.node.specs.Node.{childOf, setLimit}
 use Rattle.octets.specs.Octets.{AreOctets}
-use Rattle.tree.specs.Tree.{Request, givenIn}
+use Rattle.tree.specs.Tree.{Event, givenIn}
 use Rattle.tree.proofs.Growth.{sound-grown}
 use Rattle.tree.proofs.Given.{addresses-grown}
 use Rattle.block.specs.Block.{block}
@@ -90,57 +90,57 @@ all-written (xs ∷ blocks) journal nodes after w counts words e =
           (areWords-behind xs (joined blocks) words) g,
     )
 
--- ---- the addresses of requests
+-- ---- the addresses of requests and settings
 
 areWords-all : (xs : List ℕ) → ((a : ℕ) → List·Memᴰ a xs → a < 2 ^ 64) → AreWords xs
 areWords-all [] h = tt
 areWords-all (x ∷ xs) h = (h x (List·Memᴰ·head refl), areWords-all xs (λ a i. h a (List·Memᴰ·tail i)))
 
-nodesOf-words : (rs : List Request) → AreWords (nodesOf rs)
-nodesOf-words rs = areWords-all (nodesOf rs) (λ a i. sound-grown rs .address a i .fits)
+pub nodesOf-words : (es : List Event) → AreWords (nodesOf es)
+nodesOf-words es = areWords-all (nodesOf es) (λ a i. sound-grown es .address a i .fits)
 
 cons-tail : {x : ℕ} {xs ys : List ℕ} → x ∷ xs ≡ x ∷ ys → xs ≡ ys
 cons-tail e = cc
 
-module _ (rs more : List Request) (xs : List ℕ) (e : nodesOf (rs ++ more) ≡ nodesOf rs ++ xs) (few : length (nodesOf (rs ++ more)) ≤ mostNodes) where
+module _ (es more : List Event) (xs : List ℕ) (e : nodesOf (es ++ more) ≡ nodesOf es ++ xs) (few : length (nodesOf (es ++ more)) ≤ mostNodes) where
   given-words : AreWords xs
-  given-words = areWords-behind (nodesOf rs) xs (subst AreWords e (nodesOf-words (rs ++ more)))
+  given-words = areWords-behind (nodesOf es) xs (subst AreWords e (nodesOf-words (es ++ more)))
 
-  follow-given : follow (known (nodesOf rs)) xs ≡ known (nodesOf (rs ++ more))
+  follow-given : follow (known (nodesOf es)) xs ≡ known (nodesOf (es ++ more))
   follow-given =
-      let given : givenIn childOf (rs ++ more) ≡ givenIn childOf rs ++ xs =
-      cons-tail (sym (addresses-grown (rs ++ more)) ∙ e ∙ ap (λ (l : List ℕ). l ++ xs) (addresses-grown rs)) in
-      ap (λ (r : Replay). follow r xs) (sym (follow-grown rs (omega (arith, ap length e, length-append (nodesOf rs) xs))))
-      ∙ sym (follow-append bare (givenIn childOf rs) xs)
+      let given : givenIn childOf setLimit (es ++ more) ≡ givenIn childOf setLimit es ++ xs =
+      cons-tail (sym (addresses-grown (es ++ more)) ∙ e ∙ ap (λ (l : List ℕ). l ++ xs) (addresses-grown es)) in
+      ap (λ (r : Replay). follow r xs) (sym (follow-grown es (omega (arith, ap length e, length-append (nodesOf es) xs))))
+      ∙ sym (follow-append bare (givenIn childOf setLimit es) xs)
       ∙ ap (follow bare) (sym given)
-      ∙ follow-grown (rs ++ more) few
+      ∙ follow-grown (es ++ more) few
 
-requests-written : (journal : List ℕ) (rs more : List Request) (blocks : List (List ℕ)) → Onward journal (nodesOf rs) (length blocks)
-    → nodesOf (rs ++ more) ≡ nodesOf rs ++ joined blocks → AreBlocks blocks → length (nodesOf (rs ++ more)) ≤ mostNodes
-    → AllWritten writing journal blocks (λ after. RecoversTo recovering after (nodesOf (rs ++ more)))
-requests-written journal rs more blocks w e counts few =
-    all-written blocks journal (nodesOf rs) (nodesOf (rs ++ more)) w counts (given-words rs more (joined blocks) e few)
-    (follow-given rs more (joined blocks) e few)
+events-written : (journal : List ℕ) (es more : List Event) (blocks : List (List ℕ)) → Onward journal (nodesOf es) (length blocks)
+    → nodesOf (es ++ more) ≡ nodesOf es ++ joined blocks → AreBlocks blocks → length (nodesOf (es ++ more)) ≤ mostNodes
+    → AllWritten writing journal blocks (λ after. RecoversTo recovering after (nodesOf (es ++ more)))
+events-written journal es more blocks w e counts few =
+    all-written blocks journal (nodesOf es) (nodesOf (es ++ more)) w counts (given-words es more (joined blocks) e few)
+    (follow-given es more (joined blocks) e few)
 
 pub round-trip : RoundTrip writing recovering
 round-trip = record {
-  onward = λ journal written rs more blocks all w r e counts room few.
-      let (isLong, replays) = known-recovers journal (nodesOf rs) r in
-      let right = right-replayed journal all (nodesOf rs) replays in
-      let same = ap length (written-only journal (nodesOf rs) all right written w) in
-      let slots = writtenSlots-right journal (nodesOf rs) all right in
+  onward = λ journal written es more blocks all w r e counts room few.
+      let (isLong, replays) = known-recovers journal (nodesOf es) r in
+      let right = right-replayed journal all (nodesOf es) replays in
+      let same = ap length (written-only journal (nodesOf es) all right written w) in
+      let slots = writtenSlots-right journal (nodesOf es) all right in
       let counted = length-slotsOf journal in
-      requests-written journal rs more blocks (record { isLong = isLong; octets = all; replays = replays; room = omega arith }) e counts few;
-  whole = λ slots rs blocks some few e counts room nodes.
+      events-written journal es more blocks (record { isLong = isLong; octets = all; replays = replays; room = omega arith }) e counts few;
+  whole = λ slots es blocks some few e counts room nodes.
       let none = writtenSlots-erased slots in
       let all = slotCount-erased slots in
       let counted = length-slotsOf (erasedJournal slots) in
-      requests-written (erasedJournal slots) [] rs blocks
+      events-written (erasedJournal slots) [] es blocks
       (record {
         isLong = isLength-erased slots some few;
         octets = octets-erased slots;
         replays = replayed-erased slots ∙ ap (λ (l : List ℕ). known l) (sym nodesOf-none);
         room = omega arith;
       })
-      (addresses-grown rs ∙ ap₂ (λ (l m : List ℕ). l ++ m) (sym nodesOf-none) e) counts nodes;
+      (addresses-grown es ∙ ap₂ (λ (l m : List ℕ). l ++ m) (sym nodesOf-none) e) counts nodes;
 }

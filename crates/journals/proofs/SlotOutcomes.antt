@@ -15,7 +15,7 @@ use Rattle.block.proofs.Theorem.{blocks}
 use Rattle.journal.specs.Replay.{Replay, known, fault, follow, bare}
 use Rattle.journal.specs.Slots.{isErased, endsErased, slotTaken, replay}
 use Rattle.journal.proofs.ReplayLaws.{follow-append}
-use Rattle.journals.specs.Replays.{IsReplayed}
+use Rattle.journals.specs.Replays.{alone, IsReplayed}
 use Rattle.journals.specs.Slots.{IsErased, EndsErased, Holds, none, AllErased, Right, Fault, misplaced, noBlock, wrongAddress}
 use Rattle.journals.proofs.Outcomes.{Outcome, outcome-bare}
 use Rattle.journals.proofs.GivenReplayed.{follow-replayed, follow-firstFault}
@@ -39,7 +39,7 @@ same-outcome : {xs ys : List (List ℕ)} {r s : Replay} → ys ≡ xs → s ≡ 
 same-outcome e f o = subst₂ SlotOutcome e f o
 
 nodes-inOrder : {xs nodes : List ℕ} → IsReplayed xs nodes → nodes ≡ root ∷ xs
-nodes-inOrder r = r .theNodes ∙ addresses-grown (r .requests) ∙ ap (λ (l : List ℕ). root ∷ l) (sym (r .addressesGiven))
+nodes-inOrder r = r .theNodes ∙ addresses-grown (alone (r .requests)) ∙ ap (λ (l : List ℕ). root ∷ l) (sym (r .addressesGiven))
 
 module _ {before : List (List ℕ)} {xs : List ℕ} (h : Holds before xs) {nodes : List ℕ} (replayed : IsReplayed xs nodes) where
   -- erased slots behind the others

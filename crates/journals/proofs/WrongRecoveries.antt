@@ -1,5 +1,5 @@
 -- Each wrong recovery is refuted by one journal: of one erased slot, of one torn slot, of an erased slot and a torn one behind it, or of no byte.
--- The statements allow one recovery, and there it answers or leaves something else. Assumes nothing.
+-- The statements allow one recovery, and there it answers or leaves something else. The wrong record is refuted by the bare root's. Assumes nothing.
 use Prim.Native.Nat.{ℕ, _≤_}
 use mathlib.Core.Path.{_≡_, refl, sym, ap, _∙_}
 use mathlib.Core.Bool.{Bool, true, false}
@@ -7,17 +7,25 @@ use mathlib.Core.List.{List, [], _∷_}
 use native.Mathlib.Omega.{arith}
 use borrow.Author.Tests.{le-ltb}
 use lib.ListN.{length, getD, replicate, length-replicate}
+use Rattle.address.specs.Bits.{root}
+use Rattle.address.specs.declared.Kind.the-variants.{Router}
 use Rattle.octets.specs.Octets.{AreOctets}
+use Rattle.node.specs.Node.{fresh, limit, withLimits, childOf, setLimit}
+use Rattle.node.proofs.Children.{addressIn-fresh}
+use Rattle.tree.specs.Tree.{bareRoot, standing, recordOf, grow, grown}
+use Rattle.tree.proofs.Trees.{recordOf-single}
 use Rattle.block.proofs.Cases.{isBlock-first}
 use Rattle.journal.specs.Limits.{mostNodes}
 use Rattle.journal.specs.Replay.{Replay, fault, bare}
 use Rattle.journal.specs.Slots.{slotsOf, isErased, slotTaken, gapAfter, replay, replayed}
 use Rattle.journal.specs.Recovery.{isLength, RecoverEffect, refuseRecovery, restored, recovering}
+use Rattle.journals.specs.Replays.{Records}
 use Rattle.journals.specs.Slots.{IsLength}
 use Rattle.journals.specs.Refusals.{RecoverRefusals}
 use Rattle.journals.specs.RoundTrip.{joined}
 use Rattle.journals.specs.WrongRecoveries.{replaying, keptBehind, notCleared, keptAtFault, notZeroed, takingSlots, takingAll, tornSpoils}
-use Rattle.journals.specs.WrongRecoveries.{tornRefused, gapPassed, gapsAllowed, roomFirst, WrongRecoveriesExcluded}
+use Rattle.journals.specs.WrongRecoveries.{tornRefused, gapPassed, gapsAllowed, roomFirst, closedRecords, WrongRecoveriesExcluded}
+use Rattle.journals.proofs.Recovered.{limit-recovered}
 use Rattle.journals.proofs.SlotTests.{AreSlots, isErased-erased, isErased-other, spoilt-known, slotTaken-erased, slotTaken-gap}
 use Rattle.journals.proofs.SlotTests.{slotTaken-torn}
 use Rattle.journals.proofs.SlotReplays.{replay-none, replay-erased, replay-other}
@@ -155,6 +163,17 @@ roomFirst-refuted claim =
     let refusal : _≡_ {A = ℕ} 10 12 = ap (λ (e : RecoverEffect). e .answer .refusal) (one-recovery .only roomFirst claim [] [] tt) in
     omega (arith, refusal)
 
+-- ---- the bare root's record
+
+closedRecords-refuted : Records closedRecords → ⊥
+unfolding closedRecords withLimits limit
+closedRecords-refuted claim =
+    let node = claim .found [] 0 root (fresh root) stands .1 in
+    omega (arith, ap (limit Router) node, limit-recovered (fresh root) Router)
+  where
+    stands : recordOf root (grown childOf setLimit []) ≡ standing (fresh root)
+    stands = unfold grown grow bareRoot in recordOf-single (fresh root) (addressIn-fresh root)
+
 -- ---- all of them
 
 pub wrong-recoveries-excluded : WrongRecoveriesExcluded
@@ -166,4 +185,5 @@ wrong-recoveries-excluded = record {
   tornNotSkipped = tornRefused-refuted;
   gapNotSeen = gapsAllowed-refuted;
   otherOrder = roomFirst-refuted;
+  otherLimits = closedRecords-refuted;
 }

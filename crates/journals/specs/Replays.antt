@@ -4,78 +4,90 @@ use Prim.Native.Nat.{ℕ, _^_, _<_, _≤_}
 use mathlib.Core.Path.{_≡_}
 use mathlib.Core.Bool.{true, false}
 use mathlib.Core.Logic.{_⊎_, _↔_}
-use mathlib.Core.List.{List, _∷_, _++_}
+use mathlib.Core.List.{List, _∷_, _++_, map}
 use lib.ListN.{length, replicate}
 use Rattle.address.specs.declared.Kind.{Kind}
-use Rattle.node.specs.Node.{addressIn, count, childOf}
+use Rattle.address.specs.declared.Kind.the-variants.{Router, Host}
+use Rattle.node.specs.Node.{addressIn, fresh, withCounts, count, childOf, setLimit}
 use Rattle.node.specs.declared.Node.{Node}
 use Rattle.packet.specs.Packet.{packetHop}
-use Rattle.tree.specs.Tree.{Request, Tree, standing, recordOf, grown, givenIn, addresses, InTree}
+use Rattle.tree.specs.Tree.{Request, Event, asking, Tree, standing, recordOf, grown, givenIn, addresses, InTree}
 use Rattle.tree.specs.Demand3.{Demand3}
 use Rattle.block.specs.Blocks.{AreWords}
 use Rattle.journal.specs.Limits.{mostNodes}
 use Rattle.journal.specs.Replay.{isNext, known, fault, next, follow, bare}
-use Rattle.journal.specs.Record.{recordIn}
+use Rattle.journal.specs.declared.Record.{Record}
 
 -- ---- the next child
 
--- "the next child of a node already known": some record of the tree, asked for a child of a kind, answers with exactly this address
+-- "The journal holds no limits, so recovered nodes have 64 and 64": a record of the same address and counts
+unfoldable pub recovered : Node → Node
+recovered n = withCounts (count Router n) (count Host n) (fresh (addressIn n))
+
+-- "the next child of a node already known": some node of the tree, by its address and counts, asked for a child of a kind, answers with exactly
+-- this address. A limit that it has plays no part, since the journal holds none.
 pub record IsNextChild (t : Tree) (a : ℕ) : Type 0 where
   pub node : Node
   pub kind : Kind
   pub stands : recordOf (addressIn node) t ≡ standing node
-  pub given : childOf node kind .refusal ≡ 0
-  pub child : childOf node kind .child .number ≡ a
+  pub given : childOf (recovered node) kind .refusal ≡ 0
+  pub child : childOf (recovered node) kind .child .number ≡ a
 
 -- the nodes of a tree of demand 3, in the order in which their addresses were given, the root first
-abbrev pub nodesOf : List Request → List ℕ
-nodesOf rs = addresses (grown childOf rs)
+abbrev pub nodesOf : List Event → List ℕ
+nodesOf es = addresses (grown childOf setLimit es)
 
 pub record NextChildren : Type 0 where
   -- two look-ups are the rule for a child: for every tree of demand 3 and every number of 64 bits, zero included
-  pub exactly : (rs : List Request) (a : ℕ) → a < 2 ^ 64 → (isNext (nodesOf rs) a ≡ true) ↔ IsNextChild (grown childOf rs) a
+  pub exactly : (es : List Event) (a : ℕ) → a < 2 ^ 64 → (isNext (nodesOf es) a ≡ true) ↔ IsNextChild (grown childOf setLimit es) a
 
 -- ---- what is replayed
 
--- what was replayed without a fault: the addresses given in some list of requests, and the nodes of its tree, which are not too many
+-- requests, and no setting of a limit between them
+abbrev pub alone : List Request → List Event
+alone rs = map asking rs
+
+-- what was replayed without a fault: the addresses given in some list of requests alone, and the nodes of its tree, which are not too many
 pub record IsReplayed (journal nodes : List ℕ) : Type 0 where
   pub requests : List Request
-  pub addressesGiven : journal ≡ givenIn childOf requests
-  pub theNodes : nodes ≡ nodesOf requests
+  pub addressesGiven : journal ≡ givenIn childOf setLimit (alone requests)
+  pub theNodes : nodes ≡ nodesOf (alone requests)
   pub few : length nodes ≤ mostNodes
 
 -- which fault one address more is: "a 513th node, the root counted, is 14, but 17 if it is no next child"
-abbrev pub IsFault : List Request → ℕ → ℕ → Type 0
-IsFault rs a n =
-    ((n ≡ 17) × (IsNextChild (grown childOf rs) a → ⊥))
-    ⊎ ((n ≡ 14) × IsNextChild (grown childOf rs) a × (mostNodes ≤ length (nodesOf rs)))
+abbrev pub IsFault : List Event → ℕ → ℕ → Type 0
+IsFault es a n =
+    ((n ≡ 17) × (IsNextChild (grown childOf setLimit es) a → ⊥))
+    ⊎ ((n ≡ 14) × IsNextChild (grown childOf setLimit es) a × (mostNodes ≤ length (nodesOf es)))
 
--- the first fault: the addresses before it are those given in some list of requests, so few that they are replayed, and this one more is a
--- fault at their tree
+-- the first fault: the addresses before it are those given in some list of requests alone, so few that they are replayed, and this one more is
+-- a fault at their tree
 pub record IsFirstFault (journal : List ℕ) (n : ℕ) : Type 0 where
   pub requests : List Request
   pub address : ℕ
   pub rest : List ℕ
-  pub addressesGiven : journal ≡ givenIn childOf requests ++ (address ∷ rest)
-  pub few : length (nodesOf requests) ≤ mostNodes
-  pub number : IsFault requests address n
+  pub addressesGiven : journal ≡ givenIn childOf setLimit (alone requests) ++ (address ∷ rest)
+  pub few : length (nodesOf (alone requests)) ≤ mostNodes
+  pub number : IsFault (alone requests) address n
 
 pub record Replays : Type 0 where
   -- "whose addresses each are the next child of a node already known, starting from a bare root": exactly those given in a list of requests
-  -- whose tree has not too many nodes
+  -- alone whose tree has not too many nodes
   pub replayed : (journal nodes : List ℕ) → AreWords journal → (follow bare journal ≡ known nodes) ↔ IsReplayed journal nodes
-  -- so every list of addresses given since a bare root is replayed
-  pub given : (rs : List Request) → length (nodesOf rs) ≤ mostNodes → follow bare (givenIn childOf rs) ≡ known (nodesOf rs)
+  -- and every list of addresses given since a bare root is replayed, whatever limits were set between the requests
+  pub given : (es : List Event) → length (nodesOf es) ≤ mostNodes → follow bare (givenIn childOf setLimit es) ≡ known (nodesOf es)
   -- what is replayed is a tree of demand 3: it follows, and is no part of the condition
   pub demand3 : (journal nodes : List ℕ) → IsReplayed journal nodes
-      → (rs : List Request) × (journal ≡ givenIn childOf rs) × (nodes ≡ nodesOf rs) × Demand3 childOf packetHop rs
+      → (rs : List Request) × (journal ≡ givenIn childOf setLimit (alone rs)) × (nodes ≡ nodesOf (alone rs))
+      × Demand3 childOf setLimit packetHop (alone rs)
   -- one address more: "otherwise 17"
-  pub fault17 : (rs : List Request) (a : ℕ) → a < 2 ^ 64 → (next (known (nodesOf rs)) a ≡ fault 17) ↔ (IsNextChild (grown childOf rs) a → ⊥)
+  pub fault17 : (es : List Event) (a : ℕ) → a < 2 ^ 64
+      → (next (known (nodesOf es)) a ≡ fault 17) ↔ (IsNextChild (grown childOf setLimit es) a → ⊥)
   -- "a 513th node, the root counted, is 14"
-  pub fault14 : (rs : List Request) (a : ℕ) → a < 2 ^ 64
-      → (next (known (nodesOf rs)) a ≡ fault 14) ↔ (IsNextChild (grown childOf rs) a × (mostNodes ≤ length (nodesOf rs)))
+  pub fault14 : (es : List Event) (a : ℕ) → a < 2 ^ 64
+      → (next (known (nodesOf es)) a ≡ fault 14) ↔ (IsNextChild (grown childOf setLimit es) a × (mostNodes ≤ length (nodesOf es)))
   -- and no other number is given
-  pub noOther : (rs : List Request) (a n : ℕ) → a < 2 ^ 64 → next (known (nodesOf rs)) a ≡ fault n → (n ≡ 17) ⊎ (n ≡ 14)
+  pub noOther : (es : List Event) (a n : ℕ) → a < 2 ^ 64 → next (known (nodesOf es)) a ≡ fault n → (n ≡ 17) ⊎ (n ≡ 14)
   -- "the first fault deciding"
   pub faults : (journal : List ℕ) (n : ℕ) → AreWords journal → (follow bare journal ≡ fault n) ↔ IsFirstFault journal n
 
@@ -86,13 +98,20 @@ abbrev pub zerosBehind : ℕ → List ℕ
 zerosBehind zeros = replicate zeros 0
 
 -- the words that recovery leaves: the nodes, and zeros behind them
-abbrev pub wordsOf : List Request → ℕ → List ℕ
-wordsOf rs zeros = nodesOf rs ++ zerosBehind zeros
+abbrev pub wordsOf : List Event → ℕ → List ℕ
+wordsOf es zeros = nodesOf es ++ zerosBehind zeros
 
-pub record Records : Type 0 where
-  -- a node's record is the one that stands in the tree, by its address and its counts
-  pub found : (rs : List Request) (zeros a : ℕ) (n : Node) → recordOf a (grown childOf rs) ≡ standing n
-      → (recordIn (wordsOf rs zeros) a .found ≡ true) × (addressIn (recordIn (wordsOf rs zeros) a .node) ≡ a)
-      × ((kind : Kind) → count kind (recordIn (wordsOf rs zeros) a .node) ≡ count kind n)
+-- a rule for a node's record among some words
+abbrev pub RecordRule : Type 0
+RecordRule = List ℕ → ℕ → Record
+
+-- a statement of any such rule, so that a wrong one can be refuted by it
+pub record Records (rule : RecordRule) : Type 0 where
+  -- a node's record is the one that stands in the tree, by its address and its counts: "recovered nodes have 64 and 64"
+  pub found : (es : List Event) (zeros a : ℕ) (n : Node) → recordOf a (grown childOf setLimit es) ≡ standing n
+      → (rule (wordsOf es zeros) a .found ≡ true) × (rule (wordsOf es zeros) a .node ≡ recovered n)
+  -- where no limit was set it is that record itself
+  pub same : (rs : List Request) (zeros a : ℕ) (n : Node) → recordOf a (grown childOf setLimit (alone rs)) ≡ standing n
+      → rule (wordsOf (alone rs) zeros) a .node ≡ n
   -- and none is found exactly if no node of the tree has the address
-  pub absent : (rs : List Request) (zeros a : ℕ) → (recordIn (wordsOf rs zeros) a .found ≡ false) ↔ (InTree a (grown childOf rs) → ⊥)
+  pub absent : (es : List Event) (zeros a : ℕ) → (rule (wordsOf es zeros) a .found ≡ false) ↔ (InTree a (grown childOf setLimit es) → ⊥)

@@ -3,9 +3,9 @@ use Prim.Native.Nat.{ℕ, _+_, _*_, _≤_}
 use mathlib.Core.Path.{_≡_}
 use mathlib.Core.List.{List, [], _∷_, _++_}
 use lib.ListN.{length, replicate}
-use Rattle.node.specs.Node.{childOf}
+use Rattle.node.specs.Node.{childOf, setLimit}
 use Rattle.octets.specs.Octets.{AreOctets}
-use Rattle.tree.specs.Tree.{Request, givenIn}
+use Rattle.tree.specs.Tree.{Event, givenIn}
 use Rattle.block.specs.Block.{slotBytes}
 use Rattle.block.specs.Blocks.{IsCount}
 use Rattle.journal.specs.Limits.{mostSlots, mostNodes}
@@ -29,14 +29,14 @@ AllWritten write journal [] P = P journal
 AllWritten write journal (block ∷ blocks) P = (write journal block .answer .refusal ≡ 0) × AllWritten write (write journal block .journal) blocks P
 
 pub record RoundTrip (write : WriteRule) (recover : RecoverRule) : Type 0 where
-  -- slots lost to torn blocks counted: a journal that recovers to the nodes of some requests, and the addresses that more of them give, cut
-  -- into blocks in any way, where the slots that are not written suffice, and the nodes
-  pub onward : (journal : List ℕ) (written : List (List ℕ)) (rs more : List Request) (blocks : List (List ℕ))
-      → AreOctets journal → Written (slotsOf journal) written → RecoversTo recover journal (nodesOf rs)
-      → nodesOf (rs ++ more) ≡ nodesOf rs ++ joined blocks → AreBlocks blocks
-      → length written + length blocks ≤ length (slotsOf journal) → length (nodesOf (rs ++ more)) ≤ mostNodes
-      → AllWritten write journal blocks (λ after. RecoversTo recover after (nodesOf (rs ++ more)))
+  -- slots lost to torn blocks counted: a journal that recovers to the nodes of some requests and settings, and the addresses that more of them
+  -- give, cut into blocks in any way, where the slots that are not written suffice, and the nodes
+  pub onward : (journal : List ℕ) (written : List (List ℕ)) (es more : List Event) (blocks : List (List ℕ))
+      → AreOctets journal → Written (slotsOf journal) written → RecoversTo recover journal (nodesOf es)
+      → nodesOf (es ++ more) ≡ nodesOf es ++ joined blocks → AreBlocks blocks
+      → length written + length blocks ≤ length (slotsOf journal) → length (nodesOf (es ++ more)) ≤ mostNodes
+      → AllWritten write journal blocks (λ after. RecoversTo recover after (nodesOf (es ++ more)))
   -- every list of addresses given since a bare root, into an erased journal
-  pub whole : (slots : ℕ) (rs : List Request) (blocks : List (List ℕ)) → 1 ≤ slots → slots ≤ mostSlots
-      → givenIn childOf rs ≡ joined blocks → AreBlocks blocks → length blocks ≤ slots → length (nodesOf rs) ≤ mostNodes
-      → AllWritten write (replicate (slotBytes * slots) 0xFF) blocks (λ after. RecoversTo recover after (nodesOf rs))
+  pub whole : (slots : ℕ) (es : List Event) (blocks : List (List ℕ)) → 1 ≤ slots → slots ≤ mostSlots
+      → givenIn childOf setLimit es ≡ joined blocks → AreBlocks blocks → length blocks ≤ slots → length (nodesOf es) ≤ mostNodes
+      → AllWritten write (replicate (slotBytes * slots) 0xFF) blocks (λ after. RecoversTo recover after (nodesOf es))

@@ -6,11 +6,14 @@ use mathlib.Core.List.{List, [], _∷_, _++_}
 use lib.ListN.{length, drop}
 use lib.Dec.{ltb}
 use Rattle.address.specs.Choice.{if_then_else_}
+use Rattle.node.specs.Node.{withLimits}
 use Rattle.block.specs.Block.{isBlock, addressesIn}
 use Rattle.journal.specs.Limits.{mostNodes}
 use Rattle.journal.specs.Replay.{Replay, known, fault, follow, bare}
 use Rattle.journal.specs.Slots.{slotsOf, isErased, spoilt, slotTaken, gapAfter, replayed}
 use Rattle.journal.specs.Recovery.{isLength, RecoverEffect, refuseRecovery, restored, recovering}
+use Rattle.journal.specs.Record.{recordIn}
+use Rattle.journals.specs.Replays.{RecordRule, Records}
 use Rattle.journals.specs.Refusals.{RecoverRule, RecoverRefusals}
 
 -- with another replay of the journal, or another end of it
@@ -75,6 +78,12 @@ roomFirst journal words =
     else if not (isLength (length journal)) then refuseRecovery 12 words
     else restored (replayed journal) words
 
+-- ---- another record
+
+-- with 0 and 0, as if no node might have a child
+unfoldable pub closedRecords : RecordRule
+closedRecords words a = record { node = withLimits 0 0 (recordIn words a .node); found = recordIn words a .found }
+
 -- that none of them is allowed
 pub record WrongRecoveriesExcluded : Type 0 where
   -- with recovery's own parts they are recovery
@@ -90,3 +99,5 @@ pub record WrongRecoveriesExcluded : Type 0 where
   pub gapNotSeen : RecoverRefusals gapsAllowed → ⊥
   -- "Recovery first checks the length (12), then that at least 512 words are lent (10)"
   pub otherOrder : RecoverRefusals roomFirst → ⊥
+  -- "recovered nodes have 64 and 64"
+  pub otherLimits : Records closedRecords → ⊥

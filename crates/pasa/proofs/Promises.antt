@@ -6,7 +6,7 @@ use Prim.Native.Nat.{ℕ}
 use contract.Lifetimes.{Lfts}
 use denote.Ref.{RefT, now}
 use Rattle.address.specs.declared.Kind.the-variants.{Router, Host}
-use Rattle.node.specs.Node.{fresh, childOf}
+use Rattle.node.specs.Node.{fresh, childOf, setLimit}
 use Rattle.node.specs.declared.Node.{Node}
 use Rattle.header.specs.Header.{writing, reading}
 use Rattle.ipv6.specs.Form.{formWriting, formReading}
@@ -19,7 +19,7 @@ use Rattle.pasa.specs.declared.bytes.PasaRead.{PasaRead}
 use Rattle.pasa.specs.declared.bytes.PasaAddress.{PasaAddress}
 use Rattle.pasa.specs.declared.paths.PasaListed.{PasaListed}
 use Rattle.pasa.specs.declared.plans.PasaPlan.{PasaPlan}
-use Rattle.pasa.specs.Children.{PasaNode, PasaChild, nodeOf, pasaNode, pasaChild}
+use Rattle.pasa.specs.Children.{PasaNode, PasaChild, PasaLimited, nodeOf, pasaNode, pasaChild, pasaLimited}
 use Rattle.batch.specs.declared.PasaHop.{PasaHop}
 use Rattle.batch.specs.Exported.{pasaHop}
 use Rattle.batch.specs.Batch.{BatchEffect, nextHops}
@@ -30,6 +30,8 @@ use Rattle.pasa.proofs.children.node_of.Reads as node-of-reads
 use Rattle.pasa.proofs.children.pasa_fresh.Reads as fresh-reads
 use Rattle.pasa.proofs.children.pasa_child_router.Reads as child-router-reads
 use Rattle.pasa.proofs.children.pasa_child_host.Reads as child-host-reads
+use Rattle.pasa.proofs.children.pasa_limit_routers.Reads as limit-routers-reads
+use Rattle.pasa.proofs.children.pasa_limit_hosts.Reads as limit-hosts-reads
 use Rattle.pasa.proofs.forwarding.pasa_next_hop.Reads as next-hop-reads
 use Rattle.pasa.proofs.forwarding.pasa_packet_next_hop.Reads as packet-next-hop-reads
 use Rattle.pasa.proofs.forwarding.pasa_next_hops.Reads as next-hops-reads
@@ -55,6 +57,16 @@ child-router-promise n r h = h
 
 pub child-host-promise : (n : PasaNode) (r : PasaChild) → child-host-reads.Learnt tt (n, tt) r (n, tt) → r ≡ pasaChild (childOf (nodeOf n) Host)
 child-host-promise n r h = h
+
+pub limit-routers-promise : (n : PasaNode) (k : ℕ) (r : PasaLimited)
+    → limit-routers-reads.Learnt tt (n, (k, tt)) r (n, (k, tt))
+    → r ≡ pasaLimited (setLimit (nodeOf n) Router k)
+limit-routers-promise n k r h = h
+
+pub limit-hosts-promise : (n : PasaNode) (k : ℕ) (r : PasaLimited)
+    → limit-hosts-reads.Learnt tt (n, (k, tt)) r (n, (k, tt))
+    → r ≡ pasaLimited (setLimit (nodeOf n) Host k)
+limit-hosts-promise n k r h = h
 
 pub next-hop-promise : (n : PasaNode) (d : ℕ) (r : PasaHop) → next-hop-reads.Learnt tt (n, (d, tt)) r (n, (d, tt)) → r ≡ pasaHop (nextHop (nodeOf n) d)
 next-hop-promise n d r h = h
@@ -113,6 +125,12 @@ child-router-asks-nothing n = tt
 
 pub child-host-asks-nothing : (n : PasaNode) → child-host-reads.Asked tt (n, tt)
 child-host-asks-nothing n = tt
+
+pub limit-routers-asks-nothing : (n : PasaNode) (k : ℕ) → limit-routers-reads.Asked tt (n, (k, tt))
+limit-routers-asks-nothing n k = tt
+
+pub limit-hosts-asks-nothing : (n : PasaNode) (k : ℕ) → limit-hosts-reads.Asked tt (n, (k, tt))
+limit-hosts-asks-nothing n k = tt
 
 pub next-hop-asks-nothing : (n : PasaNode) (d : ℕ) → next-hop-reads.Asked tt (n, (d, tt))
 next-hop-asks-nothing n d = tt

@@ -1,12 +1,13 @@
 // The journal of a hall.
 use super::children::PasaNode;
 use address::Address;
+use journal::Record;
 ghost use mathlib.Core.Path.{_≡_};
 ghost use Rattle.crc.specs.Crc.{crc};
 ghost use Rattle.journal.specs.Record.{recordIn};
 ghost use Rattle.journal.specs.Recovery.{recovering};
 ghost use Rattle.journal.specs.Writing.{writing};
-ghost use Rattle.pasa.specs.Journals.{pasaBlock, pasaRecovered, pasaRecord, bit};
+ghost use Rattle.pasa.specs.Journals.{pasaBlock, pasaRecovered, pasaRecord, bit, nobody, nodeIn};
 
 // What writing a block answers: its slot, counted from 0, 0 in a refusal; and the refusal's number, 0 where the block is written.
 #[repr(C)]
@@ -63,15 +64,37 @@ fn bit(yes: bool) -> u8
     0
 }
 
+// No node: all zeros, the limits too, so that nobody takes it for a record.
+fn nobody() -> PasaNode
+    ensures { λ r. ⌜ r ≡ nobody ⌝ }
+{
+    PasaNode {
+        address: 0,
+        routers: 0,
+        hosts: 0,
+        router_limit: 0,
+        host_limit: 0,
+    }
+}
+
+// The node of a record that is found.
+fn node_in(answer: Record) -> PasaNode
+    ensures { λ r. ⌜ r ≡ nodeIn answer ⌝ }
+{
+    if answer.found {
+        return super::children::pasa_node(answer.node);
+    }
+    nobody()
+}
+
 // The record that a node goes on with, from the words that recovery leaves.
 #[no_mangle]
 pub extern "C" fn pasa_journal_record(words: &[u64], address: u64) -> PasaRecord
     ensures { λ r. ⌜ r ≡ pasaRecord (recordIn (now (words .entry)) address) ⌝ }
 {
     let record = journal::record_in(words, Address::of(address));
-    let node = record.node;
     PasaRecord {
-        node: super::children::pasa_node(node),
+        node: node_in(record),
         found: bit(record.found),
     }
 }

@@ -11,8 +11,8 @@ of-requires c κs = search needs
 record-in-requires : tie.Need-record-in-requires
 record-in-requires c κs = search needs
 
-pasa-node-requires : tie.Need-pasa-node-requires
-pasa-node-requires c κs = search needs
+node-in-requires : tie.Need-node-in-requires
+node-in-requires c κs = search needs
 
 bit-requires : tie.Need-bit-requires
 bit-requires c κs = search needs
@@ -20,9 +20,9 @@ bit-requires c κs = search needs
 returns : tie.Need-returns
 unfolding pasaRecord
 returns c =
-    let found = c .before .before .before .record-in .ensures in
-    let address = c .before .before .before .before .of .ensures in
-    rw (c .before .pasa-node .ensures, c .bit .ensures, found, address) refl
+    let found = c .before .before .record-in .ensures in
+    let address = c .before .before .before .of .ensures in
+    rw (c .before .node-in .ensures, c .bit .ensures, found, address) refl
 
 pub pasa-journal-record-spec : {M : Type 1} → statement M
-pasa-journal-record-spec = tie.close (tie.spec of-requires record-in-requires pasa-node-requires bit-requires returns)
+pasa-journal-record-spec = tie.close (tie.spec of-requires record-in-requires node-in-requires bit-requires returns)
