@@ -44,6 +44,9 @@ pub record Addresses : Type 0 where
   -- "The root is 1. A router ends in 0. A host ends in 1 and is longer than one bit. The root ends in 1 and is no host."
   pub hosts : (a : ℕ) → (isHost a ≡ true) ↔ IsHost a
   pub hostsBySteps : (a : ℕ) → IsAddress a → (isHost a ≡ true) ↔ ((i : ℕ) × (up : List Step) × (steps a ≡ child Host i ∷ up))
+  pub isRoot : (a : ℕ) → IsRoot a ↔ (a ≡ 1)
+  pub isRouter : (a : ℕ) → IsRouter a ↔ ((front : List Bit) × (bits a ≡ front ++ (O ∷ [])))
+  pub isHost : (a : ℕ) → IsHost a ↔ (((front : List Bit) × (bits a ≡ front ++ (I ∷ []))) × (1 < bitLength a))
   pub kinds : (a : ℕ) → 0 < a → IsRoot a ⊎ IsRouter a ⊎ IsHost a
   pub rootIsNoHost : EndsIn I 1 × (IsHost 1 → ⊥)
   pub routersAreNeither : (a : ℕ) → IsRouter a → (IsRoot a → ⊥) × (IsHost a → ⊥)

@@ -52,7 +52,7 @@ pub record ValuesOfThree : Type 0 where
   pub read65536 : reading (0xF1 ∷ 0x82 ∷ 0x0F ∷ 0x01 ∷ 0x00 ∷ 0x00 ∷ []) ≡ found 65536 6
   pub sizeOf65536 : size 65536 ≡ 3
 
--- the claims that exclude wrong rules hold of ours, whole
+-- the claims that exclude wrong rules hold of ours, whole; that of a setting stands with it (Limits)
 pub record HoldOfOurs : Type 0 where
   pub demand1Child : ChildRefusals childOf
   pub demand1Hop : HopRefusals nextHop

@@ -143,7 +143,7 @@ pub record TheReader : Type 2 where
       → (place.clauses 𝓤 H A mem run κs (reader, tt) .requires tt ≡ emp 𝓤)
       × (place.clauses 𝓤 H A mem run κs (reader, tt) .ensures tt n end ≡ fact 𝓤 (n ≡ reader .slot))
 
--- the same numbers in fields of the same names, and no field more
+-- the same numbers in fields of the same names, and no field more; a node that is not found is all zeros
 pub record JournalFields : Type 0 where
   pub block : (p : Placed) → pasaBlock p ≡ record { slot = p .slot; refusal = p .refusal }
   pub recovered : (r : Recovered) → pasaRecovered r ≡ record { nodes = r .nodes; refusal = r .refusal }

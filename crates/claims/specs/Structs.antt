@@ -45,7 +45,8 @@ pub record OneAnswer : Type 0 where
   pub aForm : (prefix ipv6 : List ℕ) (r s : Made) → madeAnswer r ≡ formReading prefix ipv6 → madeAnswer s ≡ formReading prefix ipv6 → r ≡ s
   pub aHop : (r s : Hop) → hopAnswer r ≡ hopAnswer s → r ≡ s
 
--- the same numbers in fields of the same names, and no field more; but `node` of a hop is the node named
+-- the same numbers in fields of the same names, and no field more; but `node` of a hop is the node named, and a record has its two limits flat. The
+-- structs of Four and Five stand on their pages.
 pub record Fields : Type 0 where
   pub taken : (r : PasaNode) → nodeOf r ≡ record {
     address = record { number = r .address };

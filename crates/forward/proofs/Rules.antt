@@ -8,7 +8,8 @@ use lib.ListN.{drop}
 use Rattle.address.specs.Bits.{Bit, bits, number}
 use Rattle.address.specs.Address.{bitLength, isHost, parent}
 use Rattle.search.specs.Search.{lookedAt, isPrefix, kindLooked, indexLooked}
-use Rattle.node.specs.Node.{addressIn, count, isGood}
+use Rattle.node.specs.Node.{addressIn, count, withLimits, isGood}
+use Rattle.node.proofs.Settings.{count-withLimits}
 use Rattle.node.specs.declared.Node.{Node}
 use Rattle.forward.specs.Forward.{deliverAt, upTo, downTo, refusedHop, toward, rules, nextHop}
 
@@ -52,3 +53,10 @@ module _ (n : Node) (looked : List Bit) where
   pub toward-absent : count (kindLooked looked) n ≤ indexLooked looked → toward n looked ≡ refusedHop 7
   unfolding toward
   toward-absent h = rw (le-ltb (indexLooked looked) (count (kindLooked looked) n) h)
+
+-- a limit plays no part but in 1
+module _ (n : Node) (routers hosts d : ℕ) (good : isGood n ≡ true) (still : isGood (withLimits routers hosts n) ≡ true) where
+  pub nextHop-withLimits : nextHop (withLimits routers hosts n) d ≡ nextHop n d
+  unfolding nextHop rules toward withLimits
+  nextHop-withLimits =
+      rw (good, still, count-withLimits routers hosts n (kindLooked (lookedAt (drop (bitLength (addressIn n)) (bits d)))))

@@ -8,11 +8,13 @@ use native.Mathlib.Decide.{ℕ-discrete}
 use native.Mathlib.Omega.{arith}
 use Rattle.address.specs.Address.{bitLength, isHost}
 use Rattle.address.specs.Bits.{longest}
-use Rattle.address.specs.Order.{First}
+use Rattle.address.specs.Kinds.{IsHost}
+use Rattle.address.specs.Order.{done, _when_otherwise_, First, GivenExactly}
+use Rattle.address.proofs.OrderLaws.{given-exactly}
 use Rattle.address.specs.declared.Kind.{Kind}
 use Rattle.address.specs.declared.Kind.the-variants.{Router, Host}
 use Rattle.node.specs.Node.{Node, Given, Limited, addressIn, noCap, count, limit, withLimits, withLimit, isGood, refuseChild, childOf, refuseSetting, setLimit}
-use Rattle.node.specs.Refusals.{FitsAddress, inner, outer, FitsLimits, IsGood, childOrder, SettingRefusals}
+use Rattle.node.specs.Refusals.{FitsAddress, inner, outer, FitsLimits, IsGood, IsBad, childLength, childOrder, SettingRefusals}
 use Rattle.node.specs.Settings.{SetsLimits}
 use Rattle.node.proofs.ChildLaws.{some-good, limit-most, count-kept, childOf-bad}
 use Rattle.node.proofs.Children.{address-good, count-host, count-le, below-noCap, isGood-host, isGood-counts}
@@ -64,28 +66,30 @@ good-set n kind k may = good-alike n (withLimit kind k n) (may .good) (addressIn
       (limit-withLimit (λ (other : Kind) (l : ℕ). count other n ≤ l) kind k n (may .enough) (count-kept n (may .good)) other);
 })
 
--- a record whose limits are taken away
+-- a record with other limits
 
-module _ (n : Node) where
-  pub addressIn-lifted : addressIn (withLimits noCap noCap n) ≡ addressIn n
+module _ (routers hosts : ℕ) (n : Node) where
+  pub addressIn-withLimits : addressIn (withLimits routers hosts n) ≡ addressIn n
   unfolding withLimits
-  addressIn-lifted = refl
+  addressIn-withLimits = refl
 
-  pub count-lifted : (kind : Kind) → count kind (withLimits noCap noCap n) ≡ count kind n
+  pub count-withLimits : (kind : Kind) → count kind (withLimits routers hosts n) ≡ count kind n
   unfolding count withLimits
-  count-lifted Router = refl
-  count-lifted Host = refl
+  count-withLimits Router = refl
+  count-withLimits Host = refl
 
-  limit-lifted : (kind : Kind) → limit kind (withLimits noCap noCap n) ≡ noCap
-  unfolding limit withLimits
-  limit-lifted Router = refl
-  limit-lifted Host = refl
+-- its limits taken away
 
-  pub good-lifted : isGood n ≡ true → isGood (withLimits noCap noCap n) ≡ true
-  good-lifted good = good-alike n (withLimits noCap noCap n) good addressIn-lifted count-lifted (record {
-    most = λ kind. omega (arith, limit-lifted kind);
-    kept = λ kind. omega (arith, limit-lifted kind, count-lifted kind, count-kept n good kind, limit-most n good kind);
-  })
+limit-lifted : (n : Node) (kind : Kind) → limit kind (withLimits noCap noCap n) ≡ noCap
+unfolding limit withLimits
+limit-lifted n Router = refl
+limit-lifted n Host = refl
+
+pub good-lifted : (n : Node) → isGood n ≡ true → isGood (withLimits noCap noCap n) ≡ true
+good-lifted n good = good-alike n (withLimits noCap noCap n) good (addressIn-withLimits noCap noCap n) (count-withLimits noCap noCap n) (record {
+  most = λ kind. omega (arith, limit-lifted n kind);
+  kept = λ kind. omega (arith, limit-lifted n kind, count-withLimits noCap noCap n kind, count-kept n good kind, limit-most n good kind);
+})
 
 -- the setting
 
@@ -138,6 +142,33 @@ no-cap-never n kind fits free e = go (isGood n) refl (child-refusals .given n ki
     go true good (inr (some, inr (asked, inr (below, inl (long, z))))) = omega arith
     go true good (inr (some, inr (asked, inr (below, inr (short, z))))) = omega arith
     go false good f = unfold refuseChild in omega (arith, e, ap (λ (g : Given). g .refusal) (childOf-bad n kind good))
+
+-- so a child is refused as document 01 says
+pub no-cap-order : (n : Node) (kind : Kind) → addressIn n < 2 ^ longest → limit Router n ≡ noCap → limit Host n ≡ noCap
+    → GivenExactly (1 when (FitsAddress n → ⊥) otherwise 2 when IsHost (addressIn n) otherwise 3 when longest < childLength n kind otherwise done)
+    (childOf n kind .refusal)
+no-cap-order n kind fits r h =
+    given-exactly (1 when (FitsAddress n → ⊥) otherwise 2 when IsHost (addressIn n) otherwise 3 when longest < childLength n kind otherwise done)
+    (go (child-refusals .given n kind (childOf n kind .refusal) .0 refl))
+  where
+    bad : IsBad n → FitsAddress n → ⊥
+    bad b f = b (no-cap-good n r h .1 f)
+
+    good : (IsBad n → ⊥) → (FitsAddress n → ⊥) → ⊥
+    good g f = g (λ (i : IsGood n). f (i .address))
+
+    free : (k : Kind) → limit k n ≡ noCap
+    free Router = r
+    free Host = h
+
+    go : First (childOrder n kind) (childOf n kind .refusal)
+        → First (1 when (FitsAddress n → ⊥) otherwise 2 when IsHost (addressIn n) otherwise 3 when longest < childLength n kind otherwise done)
+        (childOf n kind .refusal)
+    go (inl (b, z)) = inl (bad b, z)
+    go (inr (g, inl (i, z))) = inr (good g, inl (i, z))
+    go (inr (g, inr (i, inl (full, z)))) = absurd (no-cap-never n kind fits (free kind) z)
+    go (inr (g, inr (i, inr (below, inl (long, z))))) = inr (good g, inr (i, inl (long, z)))
+    go (inr (g, inr (i, inr (below, inr (short, z))))) = inr (good g, inr (i, inr (short, z)))
 
 pub sets-limits : SetsLimits
 sets-limits = record {

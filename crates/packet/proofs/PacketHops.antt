@@ -6,9 +6,10 @@ use Prim.Native.Nat.{ℕ}
 use borrow.Author.Tests.{eq-eqb, ne-eqb}
 use Rattle.header.specs.Header.{HeaderAnswer, reading, found, refusedHeader}
 use Rattle.header.proofs.Cases.{reading-refused}
-use Rattle.node.specs.Node.{isGood}
+use Rattle.node.specs.Node.{withLimits, isGood}
 use Rattle.node.specs.declared.Node.{Node}
 use Rattle.forward.specs.Forward.{refusedHop, nextHop}
+use Rattle.forward.proofs.Rules.{nextHop-withLimits}
 use Rattle.packet.specs.Packet.{packetHop}
 
 module _ (n : Node) (p : List ℕ) where
@@ -26,3 +27,10 @@ module _ (n : Node) (p : List ℕ) where
   unfolding packetHop
   packetHop-found g e =
       rw (g, eq-eqb (reading p .refusal) 0 (ap (λ (x : HeaderAnswer). x .refusal) e)) (ap (λ (x : HeaderAnswer). nextHop n (x .address)) e)
+
+-- a limit plays no part but in 1
+pub packetHop-withLimits : (n : Node) (routers hosts : ℕ) (p : List ℕ) → isGood n ≡ true → isGood (withLimits routers hosts n) ≡ true
+    → packetHop (withLimits routers hosts n) p ≡ packetHop n p
+unfolding packetHop
+packetHop-withLimits n routers hosts p good still =
+    rw (good, still, nextHop-withLimits n routers hosts (reading p .address) good still)

@@ -8,7 +8,7 @@ use Rattle.node.specs.Node.{addressIn, noCap, withLimits, childOf, setLimit}
 use Rattle.node.specs.WrongRules.{liftsLimits}
 use Rattle.node.specs.declared.Node.{Node}
 use Rattle.node.proofs.GivenChildren.{gives-children}
-use Rattle.node.proofs.Settings.{addressIn-lifted, count-lifted, good-lifted}
+use Rattle.node.proofs.Settings.{addressIn-withLimits, count-withLimits, good-lifted}
 use Rattle.packet.specs.Packet.{packetHop}
 use Rattle.tree.specs.Tree.{request, Event, asking, setting, Tree, Record, standing, absent, recordOf, replaced, withChild, answered}
 use Rattle.tree.specs.Tree.{askedOf, ask, happen, addresses, givenBy}
@@ -24,9 +24,9 @@ sound-lifted : (t : Tree) → Sound t → (a : ℕ) (n : Node) → recordOf a t 
 unfolding liftsLimits answered
 sound-lifted t s a n stands kind =
     let m = withLimits noCap noCap n in
-    let same = addressIn-lifted n ∙ addressIn-recordOf a n t stands in
+    let same = addressIn-withLimits noCap noCap n ∙ addressIn-recordOf a n t stands in
     let free = replaced a m t in
-    let sound : Sound free = sound-replaced t s a n m stands same (good-lifted n (s .good a n stands)) (count-lifted n) in
+    let sound : Sound free = sound-replaced t s a n m stands same (good-lifted n (s .good a n stands)) (count-withLimits noCap noCap n) in
     let asked = sound-answered free sound a m (recordOf-replaced m same t (inTree-recordOf a n t stands)) kind in
     subst (λ (u : Tree). Sound (withChild (childOf m kind) u)) (replaced-twice m (childOf m kind .node) same t) asked
 
@@ -41,7 +41,7 @@ sound-happens t (setting a kind k) s = sound-set t a kind k s
 
 keeps : (n : Node) (kind : Kind) → addressIn (liftsLimits n kind .node) ≡ addressIn n
 unfolding liftsLimits
-keeps n kind = gives-children .keepsAddress (withLimits noCap noCap n) kind ∙ addressIn-lifted n
+keeps n kind = gives-children .keepsAddress (withLimits noCap noCap n) kind ∙ addressIn-withLimits noCap noCap n
 
 addresses-happens : (t : Tree) (e : Event)
     → addresses (happen liftsLimits setLimit t e .tree) ≡ addresses t ++ givenBy (happen liftsLimits setLimit t e .replies)

@@ -1,5 +1,5 @@
--- Wrong rules for a child, which demand 3 must exclude. Those that refuse wrongly leave it true, of the bare root: crates/node/specs/WrongRules.antt
--- has them.
+-- Wrong rules for a child, which demand 3 must exclude. crates/node/specs/WrongRules.antt has those that demand 1 excludes; most of them leave demand 3
+-- true, since a child refused wrongly makes the tree smaller and no more, but one that gives past a limit (`pastLimit`) does not.
 use mathlib.Core.Bool.{not}
 use mathlib.Core.List.{_++_}
 use lib.ListN.{length}

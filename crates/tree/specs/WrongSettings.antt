@@ -1,5 +1,5 @@
--- Wrong rules for a setting of a limit, which demand 3 must exclude. Each answers and refuses as the right rule does, and hands back another
--- record. Those that refuse wrongly or set another limit leave it true: crates/node/specs/WrongRules.antt has them.
+-- Wrong rules for a setting of a limit, which demand 3 must exclude: they hand back a record with other counts, of another node, or a bad one. Demand 3
+-- does not see what a limit is set to as long as records stay good: crates/node/specs/WrongRules.antt has rules that demand 1 excludes.
 use lib.Dec.{eqb}
 use Rattle.address.specs.Choice.{if_then_else_}
 use Rattle.address.specs.declared.Kind.{Kind}
