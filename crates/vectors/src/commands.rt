@@ -8,6 +8,8 @@ use address::Made;
 use forward::Hop;
 use header::Reading;
 use node::Given;
+use node::Limited;
+use node::Limits;
 use node::Node;
 use octets::Written;
 use route::Listed;
@@ -28,6 +30,11 @@ const MAKE: u64 = 0x6D_61_6B_65;
 const ROUTER: u64 = 0x72_6F_75_74_65_72;
 
 const HOST: u64 = 0x68_6F_73_74;
+
+// "limit-r", "limit-h"
+const LIMIT_ROUTERS: u64 = 0x6C_69_6D_69_74_2D_72;
+
+const LIMIT_HOSTS: u64 = 0x6C_69_6D_69_74_2D_68;
 
 // "hop", "packet"
 const HOP: u64 = 0x68_6F_70;
@@ -67,6 +74,9 @@ const UP: u64 = 0x70_61_72_65_6E_74_20;
 
 const DOWN: u64 = 0x63_68_69_6C_64_20;
 
+// "set"
+const SET: u64 = 0x73_65_74;
+
 // "not read"
 const NOT_READ: u64 = 0x6E_6F_74_20_72_65_61_64;
 
@@ -78,7 +88,7 @@ const WORD: u64 = 0xAA;
 // The most octets that are lent.
 const MOST: usize = line::ROOM;
 
-// The bases of a command's first and second number.
+// The bases of a command's first, second and last number.
 pub(crate) fn first(name: u64) -> u64
     ensures { λ r. ⌜ 0 < r ⌝ }
 {
@@ -97,27 +107,59 @@ pub(crate) fn second(name: u64) -> u64
     }
 }
 
+pub(crate) fn last(name: u64) -> u64
+    ensures { λ r. ⌜ 0 < r ⌝ }
+{
+    match name {
+        LIMIT_ROUTERS | LIMIT_HOSTS => 10,
+        _ => 2,
+    }
+}
+
 fn record(numbers: Numbers) -> Node {
-    let mut node = Node::fresh(Address::of(numbers.a));
-    node.routers = (numbers.b % 256) as u8;
-    node.hosts = (numbers.c % 256) as u8;
-    node
+    Node {
+        address: Address::of(numbers.a),
+        routers: (numbers.b % 256) as u8,
+        hosts: (numbers.c % 256) as u8,
+        limits: Limits {
+            routers: (numbers.b_limit % 256) as u8,
+            hosts: (numbers.c_limit % 256) as u8,
+        },
+    }
+}
+
+// A count as it is typed, with its limit where it has one.
+fn counted(count: u8, limit: u8, value: &[u8], at: usize) -> usize {
+    let end = answer::decimal(count as u64, value, answer::octet(b' ', value, at));
+    if limit == node::NO_CAP {
+        return end;
+    }
+    answer::decimal(limit as u64, value, answer::octet(b'/', value, end))
 }
 
 // A record as its arguments are typed.
 fn node(node: Node, value: &[u8], at: usize) -> usize {
     let end = answer::binary(node.address.number, value, at);
-    let routers = answer::decimal(node.routers as u64, value, answer::octet(b' ', value, end));
-    answer::decimal(
-        node.hosts as u64,
-        value,
-        answer::octet(b' ', value, routers),
-    )
+    let routers = counted(node.routers, node.limits.routers, value, end);
+    counted(node.hosts, node.limits.hosts, value, routers)
 }
 
 fn given(given: Given, value: &[u8]) -> usize {
     let end = answer::address(given.refusal, given.child.number, value);
     node(given.node, value, answer::text(THEN, value, end))
+}
+
+// Whether a limit is set, or the refusal in its place.
+fn setting(refusal: u8, value: &[u8]) -> usize {
+    if refusal == 0 {
+        return answer::text(SET, value, 0);
+    }
+    answer::refused(refusal, 0, value)
+}
+
+fn limited(limited: Limited, value: &[u8]) -> usize {
+    let end = setting(limited.refusal, value);
+    node(limited.node, value, answer::text(THEN, value, end))
 }
 
 fn hop(hop: Hop, value: &[u8]) -> usize {
@@ -301,6 +343,8 @@ pub(crate) fn run(name: u64, numbers: Numbers, x: &[u8], value: &[u8]) -> usize 
         MAKE => made(Address::new(numbers.a), value),
         ROUTER => given(record(numbers).child(Kind::Router), value),
         HOST => given(record(numbers).child(Kind::Host), value),
+        LIMIT_ROUTERS => limited(record(numbers).set_limit(Kind::Router, numbers.d), value),
+        LIMIT_HOSTS => limited(record(numbers).set_limit(Kind::Host, numbers.d), value),
         HOP => hop(
             forward::next_hop(record(numbers), Address::of(numbers.d)),
             value,

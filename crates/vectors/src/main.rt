@@ -1,5 +1,5 @@
-// Runs the known values of document 01, and the drafts' examples, through the functions that carry the promises, and compares each answer, as
-// text and octet by octet, with the value typed from the document.
+// Runs the known values of document 01, the drafts' examples and the values of document 02 through the functions that carry the promises, and
+// compares each answer, as text and octet by octet, with the value typed from the document.
 //
 // The cases are data: the file `stdin` has one to a line, `COMMAND ARGUMENTS = VALUE`, with one space between words, under the sentence that it
 // is from. Empty lines and lines that begin with `#` are printed as they stand, and each case as
@@ -8,6 +8,8 @@
 //     length A, depth A, is-host A       a number; 1 for a host and 0 for any other
 //     parent A, make A                   an address; `refused N` where there is none
 //     router A ROUTERS HOSTS, host ..    the child that the node with this record gives, or `refused N`; `then`, and the record handed back
+//     limit-r A ROUTERS HOSTS LIMIT      `set`, or `refused N`, where the limit on the node's routers is to be LIMIT; `then`, and the record
+//     limit-h ..                         handed back; the same for hosts
 //     hop A ROUTERS HOSTS D              `deliver`, `parent` or `child` and the node named, or `refused N`
 //     packet A ROUTERS HOSTS OCTETS      the same, for the destination in a packet
 //     path A D ROOM, hops A D ROOM       the hops, and for `path` then the addresses, or `refused N`
@@ -17,14 +19,16 @@
 //     back PREFIX OCTETS                 the address in an IPv6 form, or `refused N`
 //     line ROOM OCTETS                   the path program's output for an input, with `/` for each newline; or `refused N` and no `/`
 //
-// Addresses and D are binary digits and may be 0, counts, rooms and numbers are decimal, and octets are an `x` and lower-case hexadecimal digits,
-// none of them for no octets. ROOM is how many words or octets are lent, at most 130 and 8200; they hold AA before,
-// and ` changed` stands behind the answer for each one that was not to be written and is no longer AA. Behind a refusal ` with` and the number
+// ROUTERS and HOSTS are a count, or a count and its limit, as `2/3`; one without a limit has 64, and so it is printed.
+//
+// Addresses and D are binary digits and may be 0, counts, limits, rooms and numbers are decimal, and octets are an `x` and lower-case
+// hexadecimal digits, none of them for no octets. ROOM is how many words or octets are lent, at most 130 and 8200; they hold AA before, and
+// ` changed` stands behind the answer for each one that was not to be written and is no longer AA. Behind a refusal ` with` and the number
 // beside it would stand, were it not 0.
 //
 // A line without ` = ` is `not read` and DIFFERS, and a command that is not named here has the answer `not read`. Arguments are not judged: a
-// number goes as far as its digits do, one that is left out is 0, a count is taken modulo 256, at most 512 octets are read, and what is typed
-// behind the last argument of a command is passed over.
+// number goes as far as its digits do, one that is left out is 0, a count and the limit behind it are taken modulo 256, at most 512 octets are
+// read, and what is typed behind the last argument of a command is passed over.
 mod answer;
 mod commands;
 mod read;
@@ -67,7 +71,13 @@ fn run(asked: &[u8], end: usize, name: u64, value: &[u8]) -> usize {
     }
     commands::run(
         name,
-        read::arguments(asked, end, commands::first(name), commands::second(name)),
+        read::arguments(
+            asked,
+            end,
+            commands::first(name),
+            commands::second(name),
+            commands::last(name),
+        ),
         x,
         value,
     )

@@ -8,13 +8,25 @@ struct Run {
     value: u64,
 }
 
-// The numbers of a case, 0 where there is none.
+// A number with the limit typed behind it.
+struct Count {
+    end: usize,
+    value: u64,
+    limit: u64,
+}
+
+// The numbers of a case, 0 where there is none, and the limits of the second and the third, 64 where there is none.
 pub(crate) struct Numbers {
     pub(crate) a: u64,
     pub(crate) b: u64,
+    pub(crate) b_limit: u64,
     pub(crate) c: u64,
+    pub(crate) c_limit: u64,
     pub(crate) d: u64,
 }
+
+// "64 meaning no cap"
+const NO_CAP: u64 = 64;
 
 fn wide(octet: u8) -> u64 {
     octet as u64
@@ -40,18 +52,47 @@ fn digits(text: &[u8], from: usize, base: u64) -> Run
     Run { end: i, value }
 }
 
-// The numbers behind a place: two in the bases told, a third in decimal digits and an address.
-pub(crate) fn arguments(text: &[u8], from: usize, first: u64, second: u64) -> Numbers
-    requires { ⌜ (0 < first) × (0 < second) ⌝ }
+// Whether an octet stands at a place.
+fn holds(text: &[u8], at: usize, octet: u8) -> bool {
+    if at < text.len() {
+        return text[at] == octet;
+    }
+    false
+}
+
+// The number behind a place, and the limit behind that, as `2/3`.
+fn counted(text: &[u8], from: usize, base: u64) -> Count
+    requires { ⌜ 0 < base ⌝ }
+{
+    let count = digits(text, from, base);
+    let mut limit = Run {
+        end: count.end,
+        value: NO_CAP,
+    };
+    if holds(text, count.end, b'/') {
+        limit = digits(text, count.end, 10);
+    }
+    Count {
+        end: limit.end,
+        value: count.value,
+        limit: limit.value,
+    }
+}
+
+// The numbers behind a place: the third is in decimal digits, the others in the bases told.
+pub(crate) fn arguments(text: &[u8], from: usize, first: u64, second: u64, last: u64) -> Numbers
+    requires { ⌜ (0 < first) × (0 < second) × (0 < last) ⌝ }
 {
     let a = digits(text, from, first);
-    let b = digits(text, a.end, second);
-    let c = digits(text, b.end, 10);
-    let d = digits(text, c.end, 2);
+    let b = counted(text, a.end, second);
+    let c = counted(text, b.end, 10);
+    let d = digits(text, c.end, last);
     Numbers {
         a: a.value,
         b: b.value,
+        b_limit: b.limit,
         c: c.value,
+        c_limit: c.limit,
         d: d.value,
     }
 }
