@@ -1,4 +1,4 @@
-/* PASA addresses: parents and depths, children, next hops, packet headers, IPv6 forms, paths, hall plans and journals.
+/* PASA addresses: parents and depths, children and limits on them, next hops, packet headers, IPv6 forms, paths, hall plans and journals.
  *
  * The functions are those of libpasa.a, for x86-64, each proved to answer what the specification says for every input; a refusal is an
  * answer like any other. Nothing is kept between calls and nothing is allocated, so every function may be called from any thread.
@@ -25,6 +25,9 @@ extern "C" {
 #define PASA_LONGEST 64
 #define PASA_ROOT UINT64_C(1)
 
+/* The limit of a node that has none, which is the highest one too. */
+#define PASA_NO_CAP 64
+
 /* The most octets of a header, the octets of an IPv6 prefix and of an IPv6 address, and the most addresses of a path. */
 #define PASA_HEADER_MOST 11
 #define PASA_IPV6_PREFIX 8
@@ -46,7 +49,7 @@ extern "C" {
 /* The refusals, by the documents' numbers. */
 enum pasa_refusal {
     PASA_DONE = 0,
-    PASA_BAD_RECORD = 1,      /* the node record is bad */
+    PASA_BAD_RECORD = 1,      /* the node record is bad, or a limit to set isn't 0 to 64 or is below its count */
     PASA_HOST_ASKED = 2,      /* a host is asked for a child */
     PASA_TOO_LONG = 3,        /* the child would be longer than 64 bits */
     PASA_ENDS_EARLY = 4,      /* the packet ends too early */
@@ -61,6 +64,7 @@ enum pasa_refusal {
                                  addresses */
     PASA_BAD_PLAN = 13,       /* a plan's text is outside the grammar */
     PASA_TOO_MANY = 14,       /* a plan has too many bytes, or a plan or a journal too many nodes */
+    PASA_AT_LIMIT = 15,       /* a node is asked for a child at its limit */
     PASA_BAD_JOURNAL = 17     /* a journal's slot is out of place or no right block, or an address in it is no next child */
 };
 
@@ -72,16 +76,24 @@ enum pasa_action {
     PASA_TO_CHILD = 3
 };
 
-/* A node's record: its address with the router children and the host children given so far.
+/* A node's record: its address, the router children and the host children given so far, and how many of each it may give, 0 to 64.
  *
- * A caller makes a record by pasa_fresh alone, also one that was stored: make it afresh and set its counts, and every other field starts
- * right; pasa_journal_record answers one made so.
- * There is one record of a node, and the one that a request answers takes its place: an old record, or a copy, that is asked again gives the
- * same address a second time, to another node. */
+ * A caller makes a record by pasa_fresh alone, and sets its limits by pasa_limit_routers and pasa_limit_hosts. One that was stored is made in
+ * this order: afresh; its counts set, which are the only fields that a caller writes; then its limits, where it had other ones than a fresh
+ * record. pasa_journal_record answers a record made so as far as its counts: a journal holds no limits, so they are set again.
+ *
+ * A record without limits has 64 in both, PASA_NO_CAP, and not 0. A struct that is initialized by hand with an address and two counts gets
+ * limits of 0 from C: with both counts 0 such a record gives no child (15), and with any other it is bad (1). One that is only assigned to has
+ * for limits whatever stood there.
+ *
+ * There is one record of a node, and the one that a request or a setting answers takes its place: an old record, or a copy, that is asked again
+ * gives the same address a second time, to another node. */
 struct pasa_node {
     uint64_t address;
     uint8_t routers;
     uint8_t hosts;
+    uint8_t router_limit;
+    uint8_t host_limit;
 };
 
 /* A child's answer: the record to go on with, and the child's address. */
@@ -89,6 +101,12 @@ struct pasa_child {
     struct pasa_node node;
     uint64_t child;
     uint8_t refusal; /* enum pasa_refusal, here and below */
+};
+
+/* A setting's answer: the record to go on with. */
+struct pasa_limited {
+    struct pasa_node node;
+    uint8_t refusal;
 };
 
 /* A next hop's answer: the node passed to, on delivery the node itself. */
@@ -161,11 +179,17 @@ PASA_ASSERT(sizeof(struct pasa_node) == 16)
 PASA_ASSERT(offsetof(struct pasa_node, address) == 0)
 PASA_ASSERT(offsetof(struct pasa_node, routers) == 8)
 PASA_ASSERT(offsetof(struct pasa_node, hosts) == 9)
+PASA_ASSERT(offsetof(struct pasa_node, router_limit) == 10)
+PASA_ASSERT(offsetof(struct pasa_node, host_limit) == 11)
 
 PASA_ASSERT(sizeof(struct pasa_child) == 32)
 PASA_ASSERT(offsetof(struct pasa_child, node) == 0)
 PASA_ASSERT(offsetof(struct pasa_child, child) == 16)
 PASA_ASSERT(offsetof(struct pasa_child, refusal) == 24)
+
+PASA_ASSERT(sizeof(struct pasa_limited) == 24)
+PASA_ASSERT(offsetof(struct pasa_limited, node) == 0)
+PASA_ASSERT(offsetof(struct pasa_limited, refusal) == 16)
 
 PASA_ASSERT(sizeof(struct pasa_hop) == 16)
 PASA_ASSERT(offsetof(struct pasa_hop, node) == 0)
@@ -212,7 +236,7 @@ PASA_ASSERT(offsetof(struct pasa_record, found) == 16)
  * every object that includes this header refers to that function: with an archive of another interface it does not link, but ends with an
  * undefined reference to the name. The reference costs a pointer an object. A compiler other than gcc and clang makes none by itself: call
  * PASA_CHECK_INTERFACE() there, once in a program. */
-#define PASA_INTERFACE pasa_interface_1
+#define PASA_INTERFACE pasa_interface_2
 uint32_t PASA_INTERFACE(void);
 #define PASA_CHECK_INTERFACE() ((void)PASA_INTERFACE())
 
@@ -236,7 +260,7 @@ static inline const char *pasa_refusal_text(uint8_t refusal)
     case PASA_DONE:
         return "done";
     case PASA_BAD_RECORD:
-        return "the node record is bad";
+        return "the node record is bad, or a limit to set isn't 0 to 64 or is below its count";
     case PASA_HOST_ASKED:
         return "a host is asked for a child";
     case PASA_TOO_LONG:
@@ -263,6 +287,8 @@ static inline const char *pasa_refusal_text(uint8_t refusal)
         return "a plan's text is outside the grammar";
     case PASA_TOO_MANY:
         return "a plan has too many bytes, or a plan or a journal too many nodes";
+    case PASA_AT_LIMIT:
+        return "a node is asked for a child at its limit";
     case PASA_BAD_JOURNAL:
         return "a journal's slot is out of place or no right block, or an address in it is no next child";
     default:
@@ -282,14 +308,23 @@ uint32_t pasa_bit_length(uint64_t address);
 /* 1 for a host's address, 0 for any other; neither the root nor zero is one. */
 uint8_t pasa_is_host(uint64_t address);
 
-/* The record that a node starts with: its address, and both counts 0. It refuses nothing; a record of address zero is bad. */
+/* The record that a node starts with: its address, both counts 0 and both limits PASA_NO_CAP. It refuses nothing; a record of address zero is
+ * bad. */
 struct pasa_node pasa_fresh(uint64_t address);
 
-/* Gives the next router child. The record answered takes the place of the one handed in. Refusals: 1, 2, 3. */
+/* Gives the next router child. The record answered takes the place of the one handed in. Refusals: 1, 2, 15, 3. */
 struct pasa_child pasa_child_router(struct pasa_node node);
 
-/* Gives the next host child. The record answered takes the place of the one handed in. Refusals: 1, 2, 3. */
+/* Gives the next host child. The record answered takes the place of the one handed in. Refusals: 1, 2, 15, 3. */
 struct pasa_child pasa_child_host(struct pasa_node node);
+
+/* Sets how many router children the node may give, those given so far among them; PASA_NO_CAP takes the limit away. The record answered takes
+ * the place of the one handed in; nothing else in it is changed. Refusal: 1, for a bad record, which no setting mends, a limit above PASA_NO_CAP,
+ * or one below the count; then the record answered is the one handed in. */
+struct pasa_limited pasa_limit_routers(struct pasa_node node, uint64_t limit);
+
+/* The same for host children. A host may have limits too; it gives no child whatever they are. */
+struct pasa_limited pasa_limit_hosts(struct pasa_node node, uint64_t limit);
 
 /* The next hop at this node for a packet to the destination. Refusals: 1, 9, 7. */
 struct pasa_hop pasa_next_hop(struct pasa_node node, uint64_t destination);
@@ -339,8 +374,9 @@ struct pasa_block pasa_journal_write(uint8_t *journal, size_t journal_length, co
  * would be one node more than PASA_NODES. With 12 and 10 the words stay as they were; with 14 and 17 all of them become zeros. */
 struct pasa_recovered pasa_journal_recover(const uint8_t *journal, size_t journal_length, uint64_t *words, size_t words_length);
 
-/* The record of a node among recovered words: its address, with the words that are its children counted by kind, at most 255 each. Found exactly
- * if the address is not zero and stands among the words, whatever they are. The record takes the place of any other record of the node. */
+/* The record of a node among recovered words: its address, with the words that are its children counted by kind, at most 255 each, and with both
+ * limits PASA_NO_CAP, since a journal holds none: whoever had others sets them again. Found exactly if the address is not zero and stands among
+ * the words, whatever they are. The record takes the place of any other record of the node. */
 struct pasa_record pasa_journal_record(const uint64_t *words, size_t words_length, uint64_t address);
 
 /* The CRC-16 of the octets as a journal's blocks have it: polynomial 0x1021, start 0xFFFF, high bit first, nothing reversed or added at the end. */

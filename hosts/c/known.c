@@ -1,6 +1,7 @@
 /* Calls every function of pasa.h and compares with the specification's known values. Each difference is a line, and the exit status is 1;
  * without one the last line says how many values were compared. */
 #include <inttypes.h>
+#include <stdbool.h>
 #include <stdio.h>
 #include <string.h>
 
@@ -52,19 +53,45 @@ static struct pasa_node record(const char *digits, uint8_t routers, uint8_t host
     return node;
 }
 
+/* The same record with other limits, whatever they are: bad records are made so too. */
+static struct pasa_node limited(struct pasa_node node, uint8_t routers, uint8_t hosts)
+{
+    node.router_limit = routers;
+    node.host_limit = hosts;
+    return node;
+}
+
+static void same_node(const char *what, struct pasa_node got, struct pasa_node node)
+{
+    char part[128];
+    snprintf(part, sizeof part, "%s: the record's address", what);
+    same(part, got.address, node.address);
+    snprintf(part, sizeof part, "%s: the record's routers", what);
+    same(part, got.routers, node.routers);
+    snprintf(part, sizeof part, "%s: the record's hosts", what);
+    same(part, got.hosts, node.hosts);
+    snprintf(part, sizeof part, "%s: the record's limit on routers", what);
+    same(part, got.router_limit, node.router_limit);
+    snprintf(part, sizeof part, "%s: the record's limit on hosts", what);
+    same(part, got.host_limit, node.host_limit);
+}
+
 static void same_child(const char *what, struct pasa_child got, uint64_t child, struct pasa_node node, uint8_t refusal)
 {
-    char part[96];
+    char part[128];
     snprintf(part, sizeof part, "%s: the child", what);
     same(part, got.child, child);
     snprintf(part, sizeof part, "%s: the refusal", what);
     same(part, got.refusal, refusal);
-    snprintf(part, sizeof part, "%s: the record's address", what);
-    same(part, got.node.address, node.address);
-    snprintf(part, sizeof part, "%s: the record's routers", what);
-    same(part, got.node.routers, node.routers);
-    snprintf(part, sizeof part, "%s: the record's hosts", what);
-    same(part, got.node.hosts, node.hosts);
+    same_node(what, got.node, node);
+}
+
+static void same_limited(const char *what, struct pasa_limited got, struct pasa_node node, uint8_t refusal)
+{
+    char part[128];
+    snprintf(part, sizeof part, "%s: the refusal", what);
+    same(part, got.refusal, refusal);
+    same_node(what, got.node, node);
 }
 
 static void same_hop(const char *what, struct pasa_hop got, const char *node, uint8_t action, uint8_t refusal)
@@ -116,13 +143,13 @@ static void addresses(void)
 static void interface(void)
 {
     PASA_CHECK_INTERFACE();
-    same("the number of the interface", PASA_INTERFACE(), 1);
+    same("the number of the interface", PASA_INTERFACE(), 2);
 }
 
 static void refusal_texts(void)
 {
     same_text("refusal 0", pasa_refusal_text(PASA_DONE), "done");
-    same_text("refusal 1", pasa_refusal_text(1), "the node record is bad");
+    same_text("refusal 1", pasa_refusal_text(1), "the node record is bad, or a limit to set isn't 0 to 64 or is below its count");
     same_text("refusal 2", pasa_refusal_text(2), "a host is asked for a child");
     same_text("refusal 3", pasa_refusal_text(3), "the child would be longer than 64 bits");
     same_text("refusal 4", pasa_refusal_text(4), "the packet ends too early");
@@ -137,7 +164,8 @@ static void refusal_texts(void)
               "an IPv6 address isn't 16 octets, a prefix isn't 8, a journal isn't 1 to 128 slots, or a block isn't 1 to 63 addresses");
     same_text("refusal 13", pasa_refusal_text(13), "a plan's text is outside the grammar");
     same_text("refusal 14", pasa_refusal_text(14), "a plan has too many bytes, or a plan or a journal too many nodes");
-    same_text("refusal 15", pasa_refusal_text(15), "a refusal that this header doesn't know");
+    same_text("refusal 15", pasa_refusal_text(PASA_AT_LIMIT), "a node is asked for a child at its limit");
+    same("the number at a limit", PASA_AT_LIMIT, 15);
     same_text("refusal 16", pasa_refusal_text(16), "a refusal that this header doesn't know");
     same_text("refusal 17", pasa_refusal_text(PASA_BAD_JOURNAL),
               "a journal's slot is out of place or no right block, or an address in it is no next child");
@@ -150,6 +178,8 @@ static void children(void)
     same("a fresh record's address", root.address, 1);
     same("a fresh record's routers", root.routers, 0);
     same("a fresh record's hosts", root.hosts, 0);
+    same("a fresh record's limit on routers", root.router_limit, 64);
+    same("a fresh record's limit on hosts", root.host_limit, PASA_NO_CAP);
     same_child("the root's first router", pasa_child_router(root), bits("10"), record("1", 1, 0), PASA_DONE);
     same_child("then a host", pasa_child_host(record("1", 1, 0)), bits("11"), record("1", 1, 1), PASA_DONE);
     same_child("then a router", pasa_child_router(record("1", 1, 1)), bits("110"), record("1", 2, 1), PASA_DONE);
@@ -172,6 +202,123 @@ static void children(void)
     same_child("host 11 asked", pasa_child_router(record("11", 0, 0)), 0, record("11", 0, 0), PASA_HOST_ASKED);
     same_child("host 11 with a count of 1", pasa_child_host(record("11", 1, 0)), 0, record("11", 1, 0), PASA_BAD_RECORD);
     same_child("a record of address zero", pasa_child_host(record("0", 0, 0)), 0, record("0", 0, 0), PASA_BAD_RECORD);
+}
+
+/* "Asked for a child at its limit, a node answers 15, after 2 and before 3." */
+static void children_at_limits(void)
+{
+    struct pasa_node node = limited(record("10", 2, 1), 2, 5);
+    same_child("a router of 10 at its limit", pasa_child_router(node), 0, node, PASA_AT_LIMIT);
+    same_child("a host of the same", pasa_child_host(node), bits("1011"), limited(record("10", 2, 2), 2, 5), PASA_DONE);
+    node = limited(record("10", 2, 1), 5, 1);
+    same_child("a host of 10 at its limit", pasa_child_host(node), 0, node, PASA_AT_LIMIT);
+    same_child("a router of the same", pasa_child_router(node), bits("10110"), limited(record("10", 3, 1), 5, 1), PASA_DONE);
+    node = limited(record("10", 2, 3), 4, 4);
+    same_child("a router where both kinds together are more than its limit", pasa_child_router(node), bits("10110"),
+               limited(record("10", 3, 3), 4, 4), PASA_DONE);
+    same_child("a host where they are", pasa_child_host(node), bits("101111"), limited(record("10", 2, 4), 4, 4), PASA_DONE);
+    node = limited(record("1", 0, 0), 0, 0);
+    same_child("a router of a node without any", pasa_child_router(node), 0, node, PASA_AT_LIMIT);
+    same_child("a host of a node without any", pasa_child_host(node), 0, node, PASA_AT_LIMIT);
+    node = limited(record("11", 0, 0), 0, 0);
+    same_child("a host at its limits asked", pasa_child_host(node), 0, node, PASA_HOST_ASKED);
+    same_child("a host at its limits asked for a router", pasa_child_router(node), 0, node, PASA_HOST_ASKED);
+    node = limited(pasa_fresh(UINT64_C(1) << 63), 0, PASA_NO_CAP);
+    same_child("a router of a 64-bit router with limit 0", pasa_child_router(node), 0, node, PASA_AT_LIMIT);
+    same_child("a host of it", pasa_child_host(node), 0, node, PASA_TOO_LONG);
+    node = limited(record("1", 0, 63), PASA_NO_CAP, 63);
+    same_child("the root's 64th host with limit 63", pasa_child_host(node), 0, node, PASA_AT_LIMIT);
+    node = limited(record("1", 0, 63), PASA_NO_CAP, 64);
+    same_child("the root's 64th host with limit 64", pasa_child_host(node), 0, node, PASA_TOO_LONG);
+    node = limited(record("1", 63, 0), 63, 0);
+    same_child("the root's 64th router with limit 63", pasa_child_router(node), 0, node, PASA_AT_LIMIT);
+}
+
+/* "a limit above 64, or a count above its limit, makes the record bad (1)": for every call that takes one. */
+static void bad_by_limits(const char *what, struct pasa_node node)
+{
+    uint64_t nodes[1] = {90};
+    uint8_t actions[1] = {80}, refusals[1] = {70};
+    const uint64_t destination = PASA_ROOT;
+    same_child(what, pasa_child_router(node), 0, node, PASA_BAD_RECORD);
+    same_child(what, pasa_child_host(node), 0, node, PASA_BAD_RECORD);
+    same_hop(what, pasa_next_hop(node, PASA_ROOT), "0", PASA_STOPPED, PASA_BAD_RECORD);
+    same_hop(what, pasa_packet_next_hop(node, NULL, 0), "0", PASA_STOPPED, PASA_BAD_RECORD);
+    same(what, pasa_next_hops(node, &destination, 1, nodes, 1, actions, 1, refusals, 1), 1);
+    same(what, nodes[0], 0);
+    same(what, actions[0], PASA_STOPPED);
+    same(what, refusals[0], PASA_BAD_RECORD);
+    same_limited(what, pasa_limit_routers(node, PASA_NO_CAP), node, PASA_BAD_RECORD);
+    same_limited(what, pasa_limit_hosts(node, PASA_NO_CAP), node, PASA_BAD_RECORD);
+}
+
+static void records_bad_by_limits(void)
+{
+    bad_by_limits("a limit of 65 on routers", limited(record("10", 0, 0), 65, 64));
+    bad_by_limits("a limit of 65 on hosts", limited(record("10", 0, 0), 64, 65));
+    bad_by_limits("a limit of 255 on routers", limited(record("1", 0, 0), 255, 0));
+    bad_by_limits("a limit of 255 on hosts", limited(record("1", 0, 0), 0, 255));
+    bad_by_limits("3 routers with limit 2", limited(record("1", 3, 0), 2, 64));
+    bad_by_limits("3 hosts with limit 2", limited(record("1", 0, 3), 64, 2));
+    bad_by_limits("a host with a limit of 65", limited(record("11", 0, 0), 65, 64));
+    /* what C makes of a struct that is filled with an address and two counts */
+    bad_by_limits("a record by hand with a count", (struct pasa_node){.address = 1, .routers = 1});
+    struct pasa_node by_hand = {.address = 1};
+    same_child("a record by hand without counts", pasa_child_router(by_hand), 0, by_hand, PASA_AT_LIMIT);
+    /* the next hop goes by counts alone where the record is good */
+    struct pasa_node full = limited(record("1", 2, 2), 2, 2);
+    same_hop("at a full node for its last router", pasa_next_hop(full, bits("110")), "110", PASA_TO_CHILD, PASA_DONE);
+    same_hop("at a full node for the next one", pasa_next_hop(full, bits("1110")), "0", PASA_STOPPED, PASA_CHILD_NOT_GIVEN);
+}
+
+static const uint64_t OUTSIDE[] = {65, 66, 128, 255, 256, 256 + 64, UINT64_C(1) << 32, (UINT64_C(1) << 32) + 5, UINT64_C(1) << 63, UINT64_MAX};
+
+static void set_outside(const char *what, struct pasa_node node)
+{
+    for (size_t i = 0; i < sizeof OUTSIDE / sizeof *OUTSIDE; i++) {
+        char part[96];
+        snprintf(part, sizeof part, "%s, a limit of %" PRIu64, what, OUTSIDE[i]);
+        same_limited(part, pasa_limit_routers(node, OUTSIDE[i]), node, PASA_BAD_RECORD);
+        same_limited(part, pasa_limit_hosts(node, OUTSIDE[i]), node, PASA_BAD_RECORD);
+    }
+}
+
+/* Every limit from 0 to 64, at a node with so many children: "below its count" is refused, "otherwise the record comes back with that limit as
+ * asked and nothing else changed". */
+static void set_each(const char *what, struct pasa_node node)
+{
+    for (uint8_t limit = 0; limit <= 64; limit++) {
+        char part[96];
+        snprintf(part, sizeof part, "%s, a limit of %u", what, limit);
+        bool few = limit < node.routers;
+        same_limited(part, pasa_limit_routers(node, limit), few ? node : limited(node, limit, node.host_limit), few ? PASA_BAD_RECORD : PASA_DONE);
+        few = limit < node.hosts;
+        same_limited(part, pasa_limit_hosts(node, limit), few ? node : limited(node, node.router_limit, limit), few ? PASA_BAD_RECORD : PASA_DONE);
+    }
+    set_outside(what, node);
+}
+
+static void settings(void)
+{
+    set_each("a bare root", pasa_fresh(PASA_ROOT));
+    set_each("a root with children", record("1", 5, 9));
+    set_each("a root with limits", limited(record("1", 5, 9), 5, 10));
+    set_each("a root with most children", record("1", 63, 63));
+    set_each("node 10", limited(record("10", 2, 1), 40, 1));
+    set_each("a 64-bit router", pasa_fresh(UINT64_C(1) << 63));
+    set_each("host 11", record("11", 0, 0));
+    set_outside("a bad record", record("0", 0, 0));
+    same_limited("a count too many, and its limit", pasa_limit_routers(record("10", 63, 0), 64), record("10", 63, 0), PASA_BAD_RECORD);
+    /* a node under its limit, full, and going on when the limit is raised */
+    struct pasa_node node = pasa_limit_hosts(pasa_fresh(PASA_ROOT), 1).node;
+    struct pasa_child child = pasa_child_host(node);
+    same("the first host under a limit of 1", child.child, bits("11"));
+    same("the second host under a limit of 1", pasa_child_host(child.node).refusal, PASA_AT_LIMIT);
+    child = pasa_child_host(pasa_limit_hosts(child.node, 2).node);
+    same_child("the second host under a limit of 2", child, bits("111"), limited(record("1", 0, 2), 64, 2), PASA_DONE);
+    same("the third host under a limit of 2", pasa_child_host(child.node).refusal, PASA_AT_LIMIT);
+    child = pasa_child_host(pasa_limit_hosts(child.node, PASA_NO_CAP).node);
+    same_child("the third host without a limit", child, bits("1111"), record("1", 0, 3), PASA_DONE);
 }
 
 static void next_hops(void)
@@ -1055,12 +1202,7 @@ static void record_as(const char *what, const uint64_t *among, size_t count, uin
     struct pasa_record got = pasa_journal_record(among, count, address);
     snprintf(part, sizeof part, "%s: whether it is found", what);
     same(part, got.found, found);
-    snprintf(part, sizeof part, "%s: its address", what);
-    same(part, got.node.address, node.address);
-    snprintf(part, sizeof part, "%s: its routers", what);
-    same(part, got.node.routers, node.routers);
-    snprintf(part, sizeof part, "%s: its hosts", what);
-    same(part, got.node.hosts, node.hosts);
+    same_node(what, got.node, node);
 }
 
 static void records_of_recovered_words(void)
@@ -1069,7 +1211,7 @@ static void records_of_recovered_words(void)
     erase();
     put_block(0, all.addresses, all.count);
     recovers("the hall of the records", 1, &all);
-    const struct pasa_node none = {0, 0, 0};
+    const struct pasa_node none = {0, 0, 0, 0, 0};
     record_as("the root", words, PASA_NODES, 1, record("1", 2, 2), 1);
     record_as("node 10", words, PASA_NODES, 2, record("10", 1, 2), 1);
     record_as("node 100", words, PASA_NODES, 4, record("100", 0, 0), 1);
@@ -1080,6 +1222,9 @@ static void records_of_recovered_words(void)
     record_as("words without the node's children", words, 1, 1, record("1", 0, 0), 1);
     struct pasa_child next = pasa_child_router(pasa_journal_record(words, PASA_NODES, PASA_ROOT).node);
     same("the root's next router after recovery", next.child, bits("1110"));
+    /* "The journal holds no limits, so recovered nodes have 64 and 64." */
+    same("the root's limit on routers after recovery", next.node.router_limit, 64);
+    same("the root's limit on hosts after recovery", next.node.host_limit, 64);
     /* words that no recovery leaves: the same child often */
     static uint64_t often[600];
     for (size_t i = 0; i < 600; i++)
@@ -1116,6 +1261,9 @@ int main(void)
     refusal_texts();
     addresses();
     children();
+    children_at_limits();
+    records_bad_by_limits();
+    settings();
     next_hops();
     headers();
     ipv6_forms();

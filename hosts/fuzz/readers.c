@@ -1,6 +1,7 @@
 /* A libFuzzer harness over everything of pasa.h that reads octets. Each input goes through pasa_header_read, pasa_packet_next_hop,
  * pasa_ipv6_read, pasa_plan_read and pasa_journal_recover, and what they answer is compared with reference.h; so are pasa_journal_write,
- * pasa_journal_record and pasa_crc on the same journals. What is read as an address is written again, and must give the octets read.
+ * pasa_journal_record and pasa_crc on the same journals, and pasa_child_router, pasa_child_host, pasa_limit_routers and pasa_limit_hosts on the
+ * same records. What is read as an address is written again, and must give the octets read.
  *
  * The archive is not instrumented, so the octets lent stand once at the end and once at the beginning of mapped memory, with a page that
  * nobody may touch behind them or before them: one octet too far ends the run. What is lent for reading is compared with a copy afterwards,
@@ -15,7 +16,7 @@
 #include "pasa.h"
 #include "reference.h"
 
-enum { PAGE = 4096, RECORD = 10, LARGEST = 256 };
+enum { PAGE = 4096, RECORD = 12, LARGEST = 256 };
 
 /* A plan's text, and the words for its nodes: each a little more than there may be, in whole pages. */
 enum { TEXT = 2 * PAGE, WORDS = 2 * PAGE };
@@ -78,6 +79,42 @@ static void write_again(uint8_t *page, uint64_t address, const uint8_t *octets, 
     }
 }
 
+static bool same_node(struct pasa_node got, struct pasa_node expected)
+{
+    return got.address == expected.address && got.routers == expected.routers && got.hosts == expected.hosts &&
+           got.router_limit == expected.router_limit && got.host_limit == expected.host_limit;
+}
+
+static void fail_at(struct pasa_node node, const char *what, const uint8_t *octets, size_t count)
+{
+    fprintf(stderr, "record %" PRIx64 " %u/%u %u/%u\n", node.address, node.routers, node.router_limit, node.hosts, node.host_limit);
+    fail(what, octets, count);
+}
+
+static void same_child(struct pasa_node node, struct pasa_child got, struct pasa_child expected)
+{
+    if (!same_node(got.node, expected.node) || got.child != expected.child || got.refusal != expected.refusal)
+        fail_at(node, "a child differs", NULL, 0);
+}
+
+static void same_limited(struct pasa_node node, struct pasa_limited got, struct pasa_limited expected)
+{
+    if (!same_node(got.node, expected.node) || got.refusal != expected.refusal)
+        fail_at(node, "a setting differs", NULL, 0);
+}
+
+/* A node's children, and its limits set to a number, to that number's last octet and to the numbers about both counts. */
+static void records(struct pasa_node node, uint64_t limit)
+{
+    same_child(node, pasa_child_router(node), reference_child(node, false));
+    same_child(node, pasa_child_host(node), reference_child(node, true));
+    const uint64_t limits[6] = {limit, limit % 256, node.routers, node.hosts, node.routers - UINT64_C(1), node.hosts - UINT64_C(1)};
+    for (size_t i = 0; i < 6; i++) {
+        same_limited(node, pasa_limit_routers(node, limits[i]), reference_limited(node, false, limits[i]));
+        same_limited(node, pasa_limit_hosts(node, limits[i]), reference_limited(node, true, limits[i]));
+    }
+}
+
 static void packets(struct pasa_node node, const uint8_t *packet, size_t length)
 {
     static uint8_t *page, *out;
@@ -95,10 +132,8 @@ static void packets(struct pasa_node node, const uint8_t *packet, size_t length)
             fail("pasa_header_read differs at", packet, length);
         struct pasa_hop hop = pasa_packet_next_hop(node, lent, length);
         unchanged(lent, packet, length);
-        if (hop.node != expected_hop.node || hop.refusal != expected_hop.refusal || hop.action != expected_hop.action) {
-            fprintf(stderr, "record %" PRIx64 " %u %u\n", node.address, node.routers, node.hosts);
-            fail("pasa_packet_next_hop differs at", packet, length);
-        }
+        if (hop.node != expected_hop.node || hop.refusal != expected_hop.refusal || hop.action != expected_hop.action)
+            fail_at(node, "pasa_packet_next_hop differs at", packet, length);
     }
     if (expected_read.refusal == PASA_DONE)
         write_again(out, expected_read.address, packet, expected_read.place);
@@ -234,8 +269,7 @@ static void recovery_into(const uint8_t *journal, size_t length, size_t room, un
         uint64_t address = which % 7 == 0 ? which : words[which % room];
         struct pasa_record record = pasa_journal_record(words, among, address);
         struct pasa_record expected_record = reference_journal_record(words, among, address);
-        if (record.found != expected_record.found || record.node.address != expected_record.node.address ||
-            record.node.routers != expected_record.node.routers || record.node.hosts != expected_record.node.hosts)
+        if (record.found != expected_record.found || !same_node(record.node, expected_record.node))
             fail("pasa_journal_record differs at", (const uint8_t *)words, among * sizeof(uint64_t));
         if (memcmp(pages, expected_words, WORDS) != 0)
             fail("pasa_journal_record writes at", journal, length);
@@ -396,8 +430,7 @@ static void record_among(const uint8_t *octets, size_t count)
     size_t among = count > 0 ? 600 : 0;
     uint64_t address = count > 0 ? octets[0] : 1;
     struct pasa_record got = pasa_journal_record(words, among, address), expected = reference_journal_record(words, among, address);
-    if (got.found != expected.found || got.node.address != expected.node.address || got.node.routers != expected.node.routers ||
-        got.node.hosts != expected.node.hosts)
+    if (got.found != expected.found || !same_node(got.node, expected.node))
         fail("pasa_journal_record differs among", octets, count);
 }
 
@@ -424,10 +457,10 @@ static void journals(const uint8_t *octets, size_t count)
     spelled_journal(octets, count);
 }
 
-/* All octets are a plan's text, and then spell another one; then they are a journal, and spell another one. Then the first ten are a node's
- * record, if there are ten, and the packet follows: once with the record as it stands, once with a shorter address and smaller counts, so that
- * more records are good. Then the octets behind the first are a prefix, of as many octets as the first says, and an IPv6 address; and at last all
- * octets are an IPv6 address with its own first eight for the prefix. */
+/* All octets are a plan's text, and then spell another one; then they are a journal, and spell another one. Then the first twelve are a
+ * node's record, if there are twelve, which is asked for children and set limits, and the packet follows: once with the record as it stands, once
+ * with a shorter address and smaller counts and limits, so that more records are good. Then the octets behind the first are a prefix, of as many
+ * octets as the first says, and an IPv6 address; and at last all octets are an IPv6 address with its own first eight for the prefix. */
 int LLVMFuzzerTestOneInput(const uint8_t *data, size_t size)
 {
     if (size > LARGEST)
@@ -437,13 +470,18 @@ int LLVMFuzzerTestOneInput(const uint8_t *data, size_t size)
     journals(data, size);
     if (size < RECORD)
         return 0;
-    struct pasa_node node = {0, data[8], data[9]};
+    struct pasa_node node = {0, data[8], data[9], data[10], data[11]};
     for (size_t i = 0; i < 8; i++)
         node.address = node.address << 8 | data[i];
+    uint64_t limit = node.address;
+    records(node, limit);
     packets(node, data + RECORD, size - RECORD);
     node.address >>= data[0] % 64;
     node.routers %= 66;
     node.hosts %= 66;
+    node.router_limit %= 66;
+    node.host_limit %= 66;
+    records(node, limit);
     packets(node, data + RECORD, size - RECORD);
 
     forms(data[0] % 18, data + 1, size - 1);

@@ -67,13 +67,63 @@ UNTOLD static uint64_t number_of(struct digits digits, unsigned count)
     return number;
 }
 
+static bool is_host(struct digits digits)
+{
+    return digits.count > 1 && digits.bit[digits.count - 1];
+}
+
+/* A count of a kind beside the room that the address leaves, and beside its limit. */
+static bool fits(uint8_t count, uint8_t limit, unsigned room)
+{
+    return limit <= 64 && count <= limit && count <= room;
+}
+
+static bool reference_is_good(struct pasa_node node)
+{
+    struct digits c = digits_of(node.address);
+    unsigned room = is_host(c) ? 0 : 64 - c.count;
+    return c.count != 0 && fits(node.routers, node.router_limit, room) && fits(node.hosts, node.host_limit, room);
+}
+
+static struct pasa_child reference_child(struct pasa_node node, bool host)
+{
+    struct pasa_child answer = {node, 0, PASA_DONE};
+    struct digits c = digits_of(node.address);
+    uint8_t *count = host ? &answer.node.hosts : &answer.node.routers, limit = host ? node.host_limit : node.router_limit;
+    if (!reference_is_good(node)) {
+        answer.refusal = PASA_BAD_RECORD;
+    } else if (is_host(c)) {
+        answer.refusal = PASA_HOST_ASKED;
+    } else if (*count == limit && limit < 64) {
+        answer.refusal = PASA_AT_LIMIT;
+    } else if (c.count + *count + 1 > 64) {
+        answer.refusal = PASA_TOO_LONG;
+    } else {
+        for (unsigned ones = *count; ones > 0; ones--)
+            c.bit[c.count++] = true;
+        c.bit[c.count++] = host;
+        answer.child = number_of(c, c.count);
+        *count += 1;
+    }
+    return answer;
+}
+
+static struct pasa_limited reference_limited(struct pasa_node node, bool host, uint64_t limit)
+{
+    struct pasa_limited answer = {node, PASA_BAD_RECORD};
+    if (!reference_is_good(node) || limit > 64 || limit < (host ? node.hosts : node.routers))
+        return answer;
+    *(host ? &answer.node.host_limit : &answer.node.router_limit) = (uint8_t)limit;
+    answer.refusal = PASA_DONE;
+    return answer;
+}
+
 static struct pasa_hop reference_next_hop(struct pasa_node node, uint64_t destination)
 {
     struct pasa_hop answer = {0, PASA_DONE, PASA_STOPPED};
     struct digits c = digits_of(node.address);
-    bool host = c.count > 1 && c.bit[c.count - 1];
-    unsigned room = host ? 0 : 64 - c.count;
-    if (c.count == 0 || node.routers > room || node.hosts > room) {
+    bool host = is_host(c);
+    if (!reference_is_good(node)) {
         answer.refusal = PASA_BAD_RECORD;
         return answer;
     }
@@ -435,10 +485,11 @@ static struct pasa_block reference_journal_write(uint8_t *journal, size_t length
     return answer;
 }
 
-/* Found exactly if the address is not zero and stands among the words; the counts are the words whose parent it is, by kind, at most 255 each. */
+/* Found exactly if the address is not zero and stands among the words; the counts are the words whose parent it is, by kind, at most 255 each;
+ * a journal holds no limits. */
 UNTOLD static struct pasa_record reference_journal_record(const uint64_t *words, size_t count, uint64_t address)
 {
-    struct pasa_record answer = {{0, 0, 0}, 0};
+    struct pasa_record answer = {{0, 0, 0, 0, 0}, 0};
     unsigned children[2] = {0, 0};
     for (size_t i = 0; i < count; i++) {
         if (words[i] == address && address != 0)
@@ -447,7 +498,7 @@ UNTOLD static struct pasa_record reference_journal_record(const uint64_t *words,
             children[words[i] % 2]++;
     }
     if (answer.found == 1)
-        answer.node = (struct pasa_node){address, (uint8_t)children[0], (uint8_t)children[1]};
+        answer.node = (struct pasa_node){address, (uint8_t)children[0], (uint8_t)children[1], 64, 64};
     return answer;
 }
 
