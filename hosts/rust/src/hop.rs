@@ -46,7 +46,7 @@ mod tests {
     #[test]
     fn a_refusal_counts_before_the_action() {
         assert_eq!(answer(7, 3), Err(Refusal::ChildNotGiven));
-        assert_eq!(answer(15, 3), Err(Refusal::Unknown(15)));
+        assert_eq!(answer(16, 3), Err(Refusal::Unknown(16)));
         assert_eq!(answer(255, 0), Err(Refusal::Unknown(255)));
     }
 

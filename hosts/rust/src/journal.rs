@@ -71,6 +71,9 @@ pub fn recover_journal(journal: &[u8], words: &mut [u64]) -> Result<usize, Refus
 /// The record of a node among recovered words, with the children of it that are among them counted; none where the address is not among them.
 /// As [`Node::restore`] it is called once for a node's life since the words were recovered.
 ///
+/// A journal holds no limits, so the record has none: whoever had set some sets them again, by [`Node::set_router_limit`] and
+/// [`Node::set_host_limit`].
+///
 /// It is answered for all words. Where no recovery left them, the counts may be such that the record is bad, which every call refuses with 1.
 pub fn recovered_record(words: &[u64], address: Address) -> Option<Node> {
     let answer = unsafe { sys::pasa_journal_record(words.as_ptr(), words.len(), address.number()) };
@@ -126,7 +129,10 @@ mod tests {
     }
 
     fn record(address: u64, found_as: u8) -> Option<Node> {
-        found(sys::Record { node: sys::Node { address, routers: 2, hosts: 1 }, found: found_as }, Address::ROOT)
+        found(
+            sys::Record { node: sys::Node { address, routers: 2, hosts: 1, router_limit: 64, host_limit: 64 }, found: found_as },
+            Address::ROOT,
+        )
     }
 
     #[test]

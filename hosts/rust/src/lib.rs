@@ -1,4 +1,4 @@
-//! PASA addresses in Rust: children, next hops, packet headers, IPv6 forms, paths, hall plans and journals, by the proved functions of libpasa.a.
+//! PASA addresses in Rust: children and limits on them, next hops, packet headers, IPv6 forms, paths, hall plans and journals, by the proved functions of libpasa.a.
 //!
 //! ```
 //! use pasa::{Address, Hop, Node};
@@ -16,6 +16,22 @@
 //! assert_eq!(pasa::read_header(&packet)?, (router, payload));
 //! assert_eq!(Node::fresh(host).packet_next_hop(&packet)?, Hop::Parent(Address::ROOT));
 //! assert_eq!(root.packet_next_hop(&packet)?, Hop::Child(router));
+//! # Ok(())
+//! # }
+//! ```
+//!
+//! A node may have a limit on the children of each kind; one that is at it refuses the next:
+//!
+//! ```
+//! use pasa::{Address, Node, Refusal};
+//!
+//! # fn main() -> Result<(), pasa::Refusal> {
+//! let mut root = Node::fresh(Address::ROOT);
+//! root.set_host_limit(1)?;
+//! root.host_child()?;
+//! assert_eq!(root.host_child(), Err(Refusal::AtLimit));
+//! root.set_host_limit(u64::from(pasa::NO_CAP))?;
+//! root.host_child()?;
 //! # Ok(())
 //! # }
 //! ```
@@ -55,12 +71,12 @@ pub use header::{read_header, write_header, HEADER_MOST};
 pub use hop::Hop;
 pub use ipv6::{read_ipv6, write_ipv6, IPV6_PREFIX, IPV6_WHOLE};
 pub use journal::{crc, recover_journal, recovered_record, write_block, BLOCK_MOST, NODES, SLOT, SLOTS};
-pub use node::Node;
+pub use node::{Node, NO_CAP};
 pub use plan::{read_plan, PlanRefusal, PLAN_BYTES, PLAN_NODES};
 pub use refusal::Refusal;
 pub use route::{path, PATH_MOST};
 
 /// The number of the interface that the archive has, which is the one that this crate is made for.
 pub fn interface() -> u32 {
-    unsafe { sys::pasa_interface_1() }
+    unsafe { sys::pasa_interface_2() }
 }

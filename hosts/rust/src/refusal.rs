@@ -23,14 +23,15 @@ pub enum Refusal {
     WrongLength,
     BadPlan,
     TooMany,
+    AtLimit,
     BadJournal,
     /// A number that this crate doesn't know.
     Unknown(u8),
 }
 
 /// The refusals that the documents number, and their words.
-const TABLE: [(Refusal, &str); 15] = [
-    (Refusal::BadRecord, "the node record is bad"),
+const TABLE: [(Refusal, &str); 16] = [
+    (Refusal::BadRecord, "the node record is bad, or a limit to set isn't 0 to 64 or is below its count"),
     (Refusal::HostAsked, "a host is asked for a child"),
     (Refusal::TooLong, "the child would be longer than 64 bits"),
     (Refusal::EndsEarly, "the packet ends too early"),
@@ -47,11 +48,12 @@ const TABLE: [(Refusal, &str); 15] = [
     ),
     (Refusal::BadPlan, "a plan's text is outside the grammar"),
     (Refusal::TooMany, "a plan has too many bytes, or a plan or a journal too many nodes"),
+    (Refusal::AtLimit, "a node is asked for a child at its limit"),
     (Refusal::BadJournal, "a journal's slot is out of place or no right block, or an address in it is no next child"),
 ];
 
 impl Refusal {
-    /// The documents' number, 1 to 14 or 17, or the unknown one.
+    /// The documents' number, 1 to 15 or 17, or the unknown one.
     pub const fn number(self) -> u8 {
         match self {
             Refusal::BadRecord => 1,
@@ -68,6 +70,7 @@ impl Refusal {
             Refusal::WrongLength => 12,
             Refusal::BadPlan => 13,
             Refusal::TooMany => 14,
+            Refusal::AtLimit => 15,
             Refusal::BadJournal => 17,
             Refusal::Unknown(number) => number,
         }
@@ -114,7 +117,7 @@ mod tests {
         for number in 1..=u8::MAX {
             let refusal = done(number, || 5).unwrap_err();
             assert_eq!(refusal.number(), number);
-            assert_eq!(matches!(refusal, Refusal::Unknown(_)), !matches!(number, 1..=14 | 17), "{refusal}");
+            assert_eq!(matches!(refusal, Refusal::Unknown(_)), !matches!(number, 1..=15 | 17), "{refusal}");
         }
     }
 }

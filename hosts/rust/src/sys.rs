@@ -5,13 +5,15 @@
 //! Records are plain numbers here and can be copied. That a record is asked once, which [`Node`](crate::Node) sees to, is here the caller's
 //! to see to.
 
-/// A node's record.
+/// A node's record. One without limits has 64 in both, as [`pasa_fresh`] makes it, and not 0.
 #[repr(C)]
 #[derive(Clone, Copy, Debug, PartialEq, Eq)]
 pub struct Node {
     pub address: u64,
     pub routers: u8,
     pub hosts: u8,
+    pub router_limit: u8,
+    pub host_limit: u8,
 }
 
 /// A child's answer.
@@ -20,6 +22,14 @@ pub struct Node {
 pub struct Child {
     pub node: Node,
     pub child: u64,
+    pub refusal: u8,
+}
+
+/// A setting's answer.
+#[repr(C)]
+#[derive(Clone, Copy, Debug, PartialEq, Eq)]
+pub struct Limited {
+    pub node: Node,
     pub refusal: u8,
 }
 
@@ -106,10 +116,10 @@ pub const TO_CHILD: u8 = 3;
 
 /// An archive whose structs or parameters are others exports a function of another name, and so does not link with this crate.
 #[used]
-static INTERFACE: unsafe extern "C" fn() -> u32 = pasa_interface_1;
+static INTERFACE: unsafe extern "C" fn() -> u32 = pasa_interface_2;
 
 extern "C" {
-    pub fn pasa_interface_1() -> u32;
+    pub fn pasa_interface_2() -> u32;
     pub fn pasa_parent(address: u64) -> u64;
     pub fn pasa_depth(address: u64) -> u32;
     pub fn pasa_bit_length(address: u64) -> u32;
@@ -117,6 +127,8 @@ extern "C" {
     pub fn pasa_fresh(address: u64) -> Node;
     pub fn pasa_child_router(node: Node) -> Child;
     pub fn pasa_child_host(node: Node) -> Child;
+    pub fn pasa_limit_routers(node: Node, limit: u64) -> Limited;
+    pub fn pasa_limit_hosts(node: Node, limit: u64) -> Limited;
     pub fn pasa_next_hop(node: Node, destination: u64) -> Hop;
     pub fn pasa_packet_next_hop(node: Node, packet: *const u8, packet_length: usize) -> Hop;
     pub fn pasa_next_hops(
@@ -140,4 +152,33 @@ extern "C" {
     pub fn pasa_journal_recover(journal: *const u8, journal_length: usize, words: *mut u64, words_length: usize) -> Recovered;
     pub fn pasa_journal_record(words: *const u64, words_length: usize, address: u64) -> Record;
     pub fn pasa_crc(octets: *const u8, octets_length: usize) -> u16;
+}
+
+#[cfg(test)]
+mod tests {
+    use super::*;
+    use core::mem::{offset_of, size_of};
+
+    /// The sizes and offsets that include/pasa.h asserts.
+    #[test]
+    fn structs_are_laid_out_as_in_the_header() {
+        assert_eq!(size_of::<Node>(), 16);
+        assert_eq!((offset_of!(Node, address), offset_of!(Node, routers), offset_of!(Node, hosts)), (0, 8, 9));
+        assert_eq!((offset_of!(Node, router_limit), offset_of!(Node, host_limit)), (10, 11));
+        assert_eq!(size_of::<Child>(), 32);
+        assert_eq!((offset_of!(Child, node), offset_of!(Child, child), offset_of!(Child, refusal)), (0, 16, 24));
+        assert_eq!((size_of::<Limited>(), offset_of!(Limited, node), offset_of!(Limited, refusal)), (24, 0, 16));
+        assert_eq!(size_of::<Hop>(), 16);
+        assert_eq!((offset_of!(Hop, node), offset_of!(Hop, refusal), offset_of!(Hop, action)), (0, 8, 9));
+        assert_eq!((size_of::<Written>(), offset_of!(Written, count), offset_of!(Written, refusal)), (16, 0, 8));
+        assert_eq!(size_of::<Read>(), 24);
+        assert_eq!((offset_of!(Read, address), offset_of!(Read, place), offset_of!(Read, refusal)), (0, 8, 16));
+        assert_eq!((size_of::<Address>(), offset_of!(Address, address), offset_of!(Address, refusal)), (16, 0, 8));
+        assert_eq!((size_of::<Listed>(), offset_of!(Listed, hops), offset_of!(Listed, refusal)), (8, 0, 4));
+        assert_eq!(size_of::<Plan>(), 24);
+        assert_eq!((offset_of!(Plan, nodes), offset_of!(Plan, place), offset_of!(Plan, refusal)), (0, 8, 16));
+        assert_eq!((size_of::<Block>(), offset_of!(Block, slot), offset_of!(Block, refusal)), (16, 0, 8));
+        assert_eq!((size_of::<Recovered>(), offset_of!(Recovered, nodes), offset_of!(Recovered, refusal)), (16, 0, 8));
+        assert_eq!((size_of::<Record>(), offset_of!(Record, node), offset_of!(Record, found)), (24, 0, 16));
+    }
 }

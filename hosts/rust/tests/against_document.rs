@@ -2,6 +2,7 @@
 //! ones, every beginning of valid packets, and random ones by fixed seeds. A failure prints the input.
 mod document;
 mod journals;
+mod limits;
 mod plans;
 
 use document::Kind;
@@ -47,7 +48,20 @@ impl Random {
         }
     }
 
-    /// A node's record: mostly good, and about the limit of its counts.
+    /// A limit on so many children: mostly none, or one that is at, above or below their number, or about the highest.
+    fn limit(&mut self, count: u8) -> u8 {
+        match self.below(16) {
+            0 => self.octet(),
+            1 => 63 + self.below(4) as u8,
+            2 => count.wrapping_sub(1),
+            3..=5 => count,
+            6 => count.wrapping_add(1),
+            7 => self.below(65) as u8,
+            _ => 64,
+        }
+    }
+
+    /// A node's record: mostly good, and about the limits of its counts.
     fn node(&mut self) -> Node {
         let address = self.number();
         let room = address.leading_zeros() as u8;
@@ -62,7 +76,7 @@ impl Random {
         if address % 2 == 1 && address > 1 && self.below(8) != 0 {
             (routers, hosts) = (0, 0);
         }
-        Node { address, routers, hosts }
+        Node { address, routers, hosts, router_limit: self.limit(routers), host_limit: self.limit(hosts) }
     }
 
     /// A number for which something is to be decided beside the one given: it itself, one above or below it, or one that differs little.
@@ -132,8 +146,8 @@ impl Seen {
         self.0.iter().sum()
     }
 
-    /// Each of these refusals, done among them, was met often, no other was met, and there were so many inputs.
-    fn often(&self, refusals: &[u8]) {
+    /// Each of these refusals, done among them, was met often, and no other was met.
+    fn met(&self, refusals: &[u8]) {
         for (refusal, times) in self.0.iter().enumerate() {
             if refusals.contains(&(refusal as u8)) {
                 assert!(*times >= 1000, "refusal {refusal} was the answer {times} times: the inputs are too much alike");
@@ -141,9 +155,14 @@ impl Seen {
                 assert_eq!(*times, 0, "refusal {refusal} was the answer");
             }
         }
+        println!("{} inputs, answers by refusal {:?}", self.inputs(), self.0);
+    }
+
+    /// The same, of as many inputs as each export has.
+    fn often(&self, refusals: &[u8]) {
+        self.met(refusals);
         let inputs = self.inputs();
         assert!(inputs >= MILLION, "{inputs} inputs");
-        println!("{inputs} inputs, answers by refusal {:?}", self.0);
     }
 }
 
@@ -157,7 +176,7 @@ fn fresh() {
     for i in 0..MILLION as u64 + 4096 {
         let address = if i < 4096 { i } else { random.number() };
         let got = unsafe { sys::pasa_fresh(address) };
-        assert_eq!(got, Node { address, routers: 0, hosts: 0 }, "address {address:#b}");
+        assert_eq!(got, document::fresh(address), "address {address:#b}");
     }
 }
 
@@ -188,14 +207,14 @@ fn children_of_both_kinds() {
     // every record of a small address, and of the two longest lengths of a router and of a host
     for address in (0..16).chain([1 << 62, 1 << 63, (1 << 62) + 1, u64::MAX]) {
         for counts in 0..=u16::MAX {
-            child(Node { address, routers: counts as u8, hosts: (counts >> 8) as u8 }, seen);
+            child(Node { routers: counts as u8, hosts: (counts >> 8) as u8, ..document::fresh(address) }, seen);
         }
     }
     let random = &mut Random(2);
     for _ in 0..MILLION {
         child(random.node(), seen);
     }
-    seen.often(&[0, 1, 2, 3]);
+    seen.often(&[0, 1, 2, 3, 15]);
 }
 
 fn next_hop(node: Node, destination: u64, seen: &mut Seen) {
@@ -211,7 +230,7 @@ fn next_hops_from_addresses() {
     for address in 0..512 {
         for destination in 0..512 {
             for (routers, hosts) in [(0, 0), (1, 2), (3, 0)] {
-                next_hop(Node { address, routers, hosts }, destination, seen);
+                next_hop(Node { routers, hosts, ..document::fresh(address) }, destination, seen);
             }
         }
     }
@@ -446,7 +465,7 @@ fn paths() {
 
 #[test]
 fn a_null_pointer_with_length_0() {
-    let node = Node { address: 1, routers: 2, hosts: 2 };
+    let node = Node { routers: 2, hosts: 2, ..document::fresh(1) };
     let null = std::ptr::null::<u8>();
     let null_mut = std::ptr::null_mut::<u8>();
     unsafe {

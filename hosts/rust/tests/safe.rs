@@ -20,11 +20,11 @@ fn what_an_address_answers() {
     assert_eq!((host.parent(), host.depth(), host.bit_length(), host.is_host()), (Some(address("1010")), 3, 6, true));
     let root = Address::ROOT;
     assert_eq!((root.parent(), root.depth(), root.bit_length(), root.is_host()), (None, 0, 1, false));
-    assert_eq!(pasa::interface(), 1);
+    assert_eq!(pasa::interface(), 2);
 }
 
 /// The numbers that the documents give so far.
-const NUMBERS: [u8; 15] = [1, 2, 3, 4, 5, 6, 7, 8, 9, 10, 11, 12, 13, 14, 17];
+const NUMBERS: [u8; 16] = [1, 2, 3, 4, 5, 6, 7, 8, 9, 10, 11, 12, 13, 14, 15, 17];
 
 #[test]
 fn refusals_have_the_documents_numbers() {
@@ -34,7 +34,7 @@ fn refusals_have_the_documents_numbers() {
         assert_eq!(refusal.number(), number);
         assert_ne!(refusal, Refusal::Unknown(number));
     }
-    for number in [15, 16, 18, 255] {
+    for number in [16, 18, 255] {
         assert_eq!(Refusal::of(number), Some(Refusal::Unknown(number)));
     }
     let error: Box<dyn Error> = Box::new(Refusal::ChildNotGiven);
@@ -74,6 +74,48 @@ fn a_stored_record_goes_on_where_it_was() {
     let mut restored = Node::restore(at, routers, hosts);
     assert_eq!(restored.router_child(), Ok(address("110")));
     assert_eq!(Node::restore(address("11"), 1, 0).router_child(), Err(Refusal::BadRecord));
+}
+
+#[test]
+fn limits() {
+    let mut root = Node::fresh(Address::ROOT);
+    assert_eq!((root.router_limit(), root.host_limit(), pasa::NO_CAP), (64, 64, 64));
+    assert_eq!(root.set_router_limit(1), Ok(()));
+    assert_eq!((root.router_limit(), root.host_limit()), (1, 64));
+    assert_eq!(root.router_child(), Ok(address("10")));
+    assert_eq!(root.router_child(), Err(Refusal::AtLimit));
+    assert_eq!(root.host_child(), Ok(address("11")));
+    assert_eq!(root.set_host_limit(1), Ok(()));
+    assert_eq!(root.host_child(), Err(Refusal::AtLimit));
+    for limit in [0, 65, 255, 256, 257, u64::MAX] {
+        assert_eq!((root.set_router_limit(limit), root.set_host_limit(limit)), (Err(Refusal::BadRecord), Err(Refusal::BadRecord)));
+        assert_eq!((root.routers(), root.hosts(), root.router_limit(), root.host_limit()), (1, 1, 1, 1));
+    }
+    assert_eq!(root.next_hop(address("10")), Ok(Hop::Child(address("10"))));
+    assert_eq!(root.set_router_limit(64), Ok(()));
+    assert_eq!(root.router_child(), Ok(address("110")));
+    // a host's limits are set as any other's, and it gives no child; a bad record is not mended
+    let mut host = Node::fresh(address("11"));
+    assert_eq!((host.set_host_limit(0), host.host_child()), (Ok(()), Err(Refusal::HostAsked)));
+    let mut bad = Node::restore(address("11"), 1, 0);
+    assert_eq!((bad.set_router_limit(5), bad.router_limit()), (Err(Refusal::BadRecord), 64));
+    assert_eq!(Refusal::AtLimit.to_string(), "refused 15: a node is asked for a child at its limit");
+}
+
+/// "The journal holds no limits, so recovered nodes have 64 and 64."
+#[test]
+fn limits_are_set_again_after_a_recovery() {
+    let mut journal = [0xFF; pasa::SLOT];
+    let mut root = Node::fresh(Address::ROOT);
+    root.set_host_limit(1).unwrap();
+    pasa::write_block(&mut journal, &[root.host_child().unwrap().number()]).unwrap();
+    let mut words = [0; pasa::NODES];
+    let nodes = pasa::recover_journal(&journal, &mut words).unwrap();
+    let mut again = pasa::recovered_record(&words[..nodes], Address::ROOT).unwrap();
+    assert_eq!((again.hosts(), again.router_limit(), again.host_limit()), (1, 64, 64));
+    again.set_host_limit(1).unwrap();
+    assert_eq!(again, root);
+    assert_eq!(again.host_child(), Err(Refusal::AtLimit));
 }
 
 #[test]

@@ -8,7 +8,7 @@
 //! side and times nothing: examples/bench/count has callgrind count what that takes.
 mod simple;
 
-use pasa::sys::{self, Block, Child, Hop, Listed, Node, Plan, Read, Recovered, Written};
+use pasa::sys::{self, Block, Child, Hop, Limited, Listed, Node, Plan, Read, Recovered, Written};
 use pasa::{Address, BLOCK_MOST, NODES, PLAN_NODES, SLOT, SLOTS};
 use std::collections::HashMap;
 use std::env;
@@ -55,6 +55,11 @@ extern "C" fn called_router(node: Node) -> Child {
 #[inline(never)]
 extern "C" fn called_host(node: Node) -> Child {
     simple::child(node, true)
+}
+
+#[inline(never)]
+extern "C" fn called_limit_hosts(node: Node, limit: u64) -> Limited {
+    simple::limited(node, true, limit)
 }
 
 #[inline(never)]
@@ -108,6 +113,10 @@ fn router(node: Node) -> Child {
 
 fn host(node: Node) -> Child {
     unsafe { sys::pasa_child_host(node) }
+}
+
+fn limit_hosts(node: Node, limit: u64) -> Limited {
+    unsafe { sys::pasa_limit_hosts(node, limit) }
 }
 
 fn next_hop(node: Node, destination: u64) -> Hop {
@@ -290,6 +299,56 @@ fn journal_rows(random: &mut Random) {
     writing_row("write, 7 addresses behind 8 blocks of 63", &halls, 8 * BLOCK_MOST, 7);
 }
 
+/// Both sides' answers compared, then a row for each kind of child.
+fn child_rows(name: &str, records: &[Node]) {
+    for node in records {
+        assert_eq!(router(*node), simple::child(*node, false), "{node:?}");
+        assert_eq!(host(*node), simple::child(*node, true), "{node:?}");
+    }
+    row(
+        &format!("child, a router{name}"),
+        times([
+            each!(records, |node| router(*node)),
+            each!(records, |node| called_router(*node)),
+            each!(records, |node| simple::child(*node, false)),
+        ]),
+    );
+    row(
+        &format!("child, a host{name}"),
+        times([
+            each!(records, |node| host(*node)),
+            each!(records, |node| called_host(*node)),
+            each!(records, |node| simple::child(*node, true)),
+        ]),
+    );
+}
+
+/// The same record with limits that it can have: of three, one is at it, one above it, one has none.
+fn under_limits(random: &mut Random, node: Node) -> Node {
+    let mut limit = |count: u8| match random.below(3) {
+        0 => count,
+        1 => count + random.below(65 - u64::from(count)) as u8,
+        _ => 64,
+    };
+    Node { router_limit: limit(node.routers), host_limit: limit(node.hosts), ..node }
+}
+
+/// Limits set on records, some of them above 64 or below the count.
+fn limit_row(records: &[Node], limits: &[u64]) {
+    let settings: Vec<(Node, u64)> = records.iter().copied().zip(limits.iter().copied()).collect();
+    for (node, limit) in &settings {
+        assert_eq!(limit_hosts(*node, *limit), simple::limited(*node, true, *limit), "{node:?} {limit}");
+    }
+    row(
+        "limit on hosts",
+        times([
+            each!(settings, |(node, limit)| limit_hosts(*node, *limit)),
+            each!(settings, |(node, limit)| called_limit_hosts(*node, *limit)),
+            each!(settings, |(node, limit)| simple::limited(*node, true, *limit)),
+        ]),
+    );
+}
+
 /// Destinations of packets at one node.
 struct Traffic {
     name: &'static str,
@@ -316,7 +375,8 @@ fn below_the_node(random: &mut Random, node: Node) -> Traffic {
 
 /// The longest run of ones that a search can pass: the root's last host, 64 ones.
 fn longest_run() -> Traffic {
-    Traffic { name: "longest run", node: Node { address: 1, routers: 63, hosts: 63 }, destinations: vec![u64::MAX; INPUTS] }
+    let node = Node { routers: 63, hosts: 63, ..unsafe { sys::pasa_fresh(1) } };
+    Traffic { name: "longest run", node, destinations: vec![u64::MAX; INPUTS] }
 }
 
 /// One of the first's and one of the second's destinations by turns, at the first's node.
@@ -423,26 +483,11 @@ fn main() {
 
     let Traffic { node, ref destinations, .. } = in_the_hall;
     let records: Vec<Node> = (0..INPUTS).map(|_| hall[random.below(HALL as u64) as usize]).collect();
-    for node in &records {
-        assert_eq!(router(*node), simple::child(*node, false), "{node:?}");
-        assert_eq!(host(*node), simple::child(*node, true), "{node:?}");
-    }
-    row(
-        "child, a router",
-        times([
-            each!(records, |node| router(*node)),
-            each!(records, |node| called_router(*node)),
-            each!(records, |node| simple::child(*node, false)),
-        ]),
-    );
-    row(
-        "child, a host",
-        times([
-            each!(records, |node| host(*node)),
-            each!(records, |node| called_host(*node)),
-            each!(records, |node| simple::child(*node, true)),
-        ]),
-    );
+    child_rows("", &records);
+    let limits: Vec<u64> = (0..INPUTS).map(|_| random.below(70)).collect();
+    let under_limits: Vec<Node> = records.iter().map(|node| under_limits(random, *node)).collect();
+    child_rows(", under limits", &under_limits);
+    limit_row(&under_limits, &limits);
 
     let addresses: Vec<u64> = (0..INPUTS).map(|_| random.address()).collect();
     let mut out = [0; 11];

@@ -1,6 +1,6 @@
 //! The functions as one would write them in Rust by hand, on 64-bit numbers: straight from the rules, with the language's own means and
 //! without tricks.
-use pasa::sys::{Block, Child, Hop, Listed, Node, Plan, Read, Recovered, Written, DELIVERED, STOPPED, TO_CHILD, TO_PARENT};
+use pasa::sys::{Block, Child, Hop, Limited, Listed, Node, Plan, Read, Recovered, Written, DELIVERED, STOPPED, TO_CHILD, TO_PARENT};
 
 fn bit_length(address: u64) -> u32 {
     64 - address.leading_zeros()
@@ -10,7 +10,14 @@ fn is_host(address: u64) -> bool {
     address > 1 && address % 2 == 1
 }
 
+fn fresh(address: u64) -> Node {
+    Node { address, routers: 0, hosts: 0, router_limit: 64, host_limit: 64 }
+}
+
 fn is_good(node: Node) -> bool {
+    if node.router_limit > 64 || node.routers > node.router_limit || node.host_limit > 64 || node.hosts > node.host_limit {
+        return false;
+    }
     if node.address == 0 {
         return false;
     }
@@ -39,7 +46,11 @@ pub fn child(node: Node, host: bool) -> Child {
     if is_host(node.address) {
         return refused(2);
     }
-    let count = u32::from(if host { node.hosts } else { node.routers });
+    let (count, limit) = if host { (node.hosts, node.host_limit) } else { (node.routers, node.router_limit) };
+    if count == limit {
+        return refused(15);
+    }
+    let count = u32::from(count);
     if bit_length(node.address) + count + 1 > 64 {
         return refused(3);
     }
@@ -47,6 +58,17 @@ pub fn child(node: Node, host: bool) -> Child {
     let child = ((node.address << count) | ones) << 1 | u64::from(host);
     let node = if host { Node { hosts: node.hosts + 1, ..node } } else { Node { routers: node.routers + 1, ..node } };
     Child { node, child, refusal: 0 }
+}
+
+#[inline]
+pub fn limited(node: Node, host: bool, limit: u64) -> Limited {
+    let count = if host { node.hosts } else { node.routers };
+    if !is_good(node) || limit > 64 || limit < u64::from(count) {
+        return Limited { node, refusal: 1 };
+    }
+    let limit = limit as u8;
+    let node = if host { Node { host_limit: limit, ..node } } else { Node { router_limit: limit, ..node } };
+    Limited { node, refusal: 0 }
 }
 
 #[inline]
@@ -207,7 +229,7 @@ fn plan_nodes(text: &[u8]) -> Result<usize, usize> {
 
 /// The addresses of a plan that has so many nodes, at the front of the words; none where one is too long.
 fn plan_addresses(text: &[u8], words: &mut [u64]) -> Option<()> {
-    let mut open = [Node { address: 0, routers: 0, hosts: 0 }; 64];
+    let mut open = [fresh(0); 64];
     let mut depth = 0;
     let mut nodes = 0;
     for byte in text {
@@ -230,7 +252,7 @@ fn plan_addresses(text: &[u8], words: &mut [u64]) -> Option<()> {
             address = answer.child;
         }
         if !is_host {
-            open[depth] = Node { address, routers: 0, hosts: 0 };
+            open[depth] = fresh(address);
             depth += 1;
         }
         words[nodes] = address;

@@ -1,10 +1,12 @@
 //! `hall` as a user runs it: each command, good and bad, by its output, its standard error and its exit status.
+mod child;
 mod draw;
 mod examples;
 mod header;
 mod help;
 mod ipv6;
 mod journal;
+mod limit;
 mod next;
 mod path;
 mod plan;
@@ -75,7 +77,8 @@ fn misuses_words(words: &[&str], expected: &str) {
     assert!(said.contains("\nusage: hall "), "hall {words:?} says {said}");
 }
 
-const REFUSED_1: &str = "refused 1: the node record is bad";
+const REFUSED_1: &str = "refused 1: the node record is bad, or a limit to set isn't 0 to 64 or is below its count";
+const REFUSED_2: &str = "refused 2: a host is asked for a child";
 const REFUSED_3: &str = "refused 3: the child would be longer than 64 bits";
 const REFUSED_4: &str = "refused 4: the packet ends too early";
 const REFUSED_5: &str = "refused 5: one of the first three octets is wrong";
@@ -88,4 +91,5 @@ const REFUSED_12: &str =
     "refused 12: an IPv6 address isn't 16 octets, a prefix isn't 8, a journal isn't 1 to 128 slots, or a block isn't 1 to 63 addresses";
 const REFUSED_13: &str = "refused 13: a plan's text is outside the grammar";
 const REFUSED_14: &str = "refused 14: a plan has too many bytes, or a plan or a journal too many nodes";
+const REFUSED_15: &str = "refused 15: a node is asked for a child at its limit";
 const REFUSED_17: &str = "refused 17: a journal's slot is out of place or no right block, or an address in it is no next child";

@@ -1,6 +1,6 @@
 use crate::plan::most;
 use crate::{answer, file, hall, misuses, text};
-use std::collections::VecDeque;
+use std::collections::{BTreeMap, VecDeque};
 use std::fmt::Write as _;
 use std::io::{BufRead, BufReader, Write};
 use std::path::Path;
@@ -86,6 +86,149 @@ fn refusals_are_answers() {
 }
 
 #[test]
+fn limits_anywhere() {
+    let list = "limit 1 routers 1\nrouter 1\nrouter 1\nhost 1\nlimit 10 hosts 0\nhost 10\nlimit 1 routers 0\nlimit 1 routers 65\n\
+                limit 110 hosts 1\nlimit 11 hosts 63\nhost 11\nlimit 1 routers 2\nrouter 1\nrouter 1\ntree\nlimit 1 routers 64\nrouter 1\n\
+                send 11 1110\nsend 1110 101\ntree\n";
+    let expected = "\
+limit 1 routers 1: set
+router of 1: 10
+router of 1: refused 15
+host of 1: 11
+limit 10 hosts 0: set
+host of 10: refused 15
+limit 1 routers 0: refused 1
+limit 1 routers 65: refused 1
+limit 110 hosts 1: no such node
+limit 11 hosts 63: set
+host of 11: refused 2
+limit 1 routers 2: set
+router of 1: 110
+router of 1: refused 15
+tree
+1 routers 2/2 hosts 1
+  10 routers 0 hosts 0/0
+  11 routers 0 hosts 0/63
+  110 routers 0 hosts 0
+limit 1 routers 64: set
+router of 1: 1110
+send 11 to 1110: 11 1 1110 delivered, 2 hops
+send 1110 to 101: 1110 1 10 refused 7, 2 hops
+tree
+1 routers 3 hosts 1
+  10 routers 0 hosts 0/0
+  11 routers 0 hosts 0/63
+  110 routers 0 hosts 0
+  1110 routers 0 hosts 0
+";
+    assert_eq!(traced(list), expected);
+    for limit in ["66", "255", "256", "257", "18446744073709551615"] {
+        assert_eq!(
+            traced(&format!("limit 1 hosts {limit}\ntree\n")),
+            format!("limit 1 hosts {limit}: refused 1\ntree\n1 routers 0 hosts 0\n")
+        );
+    }
+}
+
+/// A hall by the papers' sentences, on strings of digits: of each node the children given and the limit, routers first.
+struct Strings {
+    nodes: BTreeMap<String, [(usize, usize); 2]>,
+}
+
+const FRESH: [(usize, usize); 2] = [(0, 64), (0, 64)];
+
+impl Strings {
+    /// The answer to a request: the child, or the refusal.
+    fn request(&mut self, asked: &str, host: usize) -> String {
+        let Some(counts) = self.nodes.get_mut(asked) else {
+            return "no such node".to_string();
+        };
+        if asked.len() > 1 && asked.ends_with('1') {
+            return "refused 2".to_string();
+        }
+        let (given, limit) = counts[host];
+        if given == limit {
+            return "refused 15".to_string();
+        }
+        let child = format!("{asked}{}{host}", "1".repeat(given));
+        if child.len() > 64 {
+            return "refused 3".to_string();
+        }
+        counts[host].0 += 1;
+        self.nodes.insert(child.clone(), FRESH);
+        child
+    }
+
+    fn set_limit(&mut self, asked: &str, host: usize, limit: usize) -> &str {
+        match self.nodes.get_mut(asked) {
+            None => "no such node",
+            Some(counts) if limit > 64 || limit < counts[host].0 => "refused 1",
+            Some(counts) => {
+                counts[host].1 = limit;
+                "set"
+            }
+        }
+    }
+
+    fn row(&self, address: &str) -> String {
+        let zeros = address.bytes().filter(|digit| *digit == b'0').count();
+        let depth = zeros + usize::from(address.len() > 1 && address.ends_with('1'));
+        let [routers, hosts] =
+            self.nodes[address].map(|(given, limit)| if limit == 64 { given.to_string() } else { format!("{given}/{limit}") });
+        format!("{}{address} routers {routers} hosts {hosts}\n", "  ".repeat(depth))
+    }
+}
+
+/// Requests and settings in any order, refused ones and nodes that are not there among them.
+#[test]
+fn lists_of_requests_and_settings() {
+    let mut state = 20_u64;
+    let mut below = |n: usize| {
+        state = state.wrapping_mul(6_364_136_223_846_793_005).wrapping_add(1_442_695_040_888_963_407);
+        (state >> 33) as usize % n
+    };
+    let mut hall = Strings { nodes: BTreeMap::from([("1".to_string(), FRESH)]) };
+    let (mut list, mut expected) = (String::new(), String::new());
+    for _ in 0..20_000 {
+        let asked = match below(16) {
+            0 => format!("1{:b}", below(1 << 12)),
+            1..=6 => "1".to_string(),
+            _ => hall.nodes.keys().nth(below(hall.nodes.len().min(60))).unwrap().clone(),
+        };
+        let host = below(2);
+        let kind = ["router", "host"][host];
+        if below(3) > 0 {
+            writeln!(list, "{kind} {asked}").unwrap();
+            writeln!(expected, "{kind} of {asked}: {}", hall.request(&asked, host)).unwrap();
+        } else {
+            let given = hall.nodes.get(&asked).map_or(0, |counts| counts[host].0);
+            let limit = [given, given + 1, given.saturating_sub(1), 64, 65, below(66), 256 + given, usize::MAX][below(8)];
+            writeln!(list, "limit {asked} {kind}s {limit}").unwrap();
+            writeln!(expected, "limit {asked} {kind}s {limit}: {}", hall.set_limit(&asked, host, limit)).unwrap();
+        }
+    }
+    for answer in [" set\n", " refused 1\n", " refused 2\n", " refused 3\n", " refused 15\n", " no such node\n"] {
+        let times = expected.matches(answer).count();
+        assert!(times >= 20, "{answer:?} is the answer {times} times: the lists are too much alike");
+    }
+    let rows: String = hall.nodes.keys().map(|address| hall.row(address)).collect();
+    assert_eq!(traced(&(list + "tree\n")), expected + "tree\n" + &rows);
+}
+
+/// A list with settings gives the children that the same list without them gives, in its order, but for those at a limit.
+#[test]
+fn a_limited_hall_is_the_front_of_an_unlimited_one() {
+    for (limit, given) in [(0, 0), (1, 1), (62, 62), (63, 63), (64, 63)] {
+        let all = traced(&format!("limit 1 hosts {limit}\n{}", "host 1\n".repeat(65)));
+        let answers: Vec<&str> = all.lines().skip(1).collect();
+        let free = traced(&"host 1\n".repeat(given));
+        assert!(answers[..given].iter().copied().eq(free.lines()));
+        let refused = if limit == 64 { "host of 1: refused 3" } else { "host of 1: refused 15" };
+        assert!(answers[given..].iter().all(|answer| *answer == refused), "under {limit}: {answers:?}");
+    }
+}
+
+#[test]
 fn text_that_is_none_of_the_commands() {
     for bad in [
         "routers 1",
@@ -108,6 +251,24 @@ fn text_that_is_none_of_the_commands() {
         "send 1 1 1",
         "send 1 0",
         "send 2 1",
+        "limit 1",
+        "limit 1 hosts",
+        "limit 1 hosts ",
+        "limit 1 host 5",
+        "limit 1 routers 5 ",
+        "limit 1 routers  5",
+        "limit 1 routers 05",
+        "limit 1 routers 00",
+        "limit 1 routers x",
+        "limit 1 routers 5x",
+        "limit 1 routers -1",
+        "limit 1 routers +1",
+        "limit 1 routers 5 5",
+        "limit 1 routers 18446744073709551616",
+        "limit 01 routers 5",
+        "limit 0 routers 5",
+        "limit routers 1 5",
+        "limits 1 routers 5",
         "tree ",
         "trees",
         " ",

@@ -1,5 +1,5 @@
 //! A journal by the sentences of request Four: "Outlive a power cut."
-use super::{bits, is_host, parent};
+use super::{bits, fresh, is_host, parent};
 use pasa::sys::{Block, Node, Record, Recovered};
 
 /// "polynomial 0x1021, .. high bit first": what is left of an octet at the top of a register of 16 bits once eight zeros have followed it.
@@ -211,13 +211,13 @@ pub fn write(journal: &mut [u8], addresses: &[u64]) -> Block {
 }
 
 /// Our own addition: found exactly if the address is not zero and stands among the words; the counts are the words whose parent it is, by kind, at
-/// most 255 each.
+/// most 255 each. "The journal holds no limits, so recovered nodes have 64 and 64." Where none is found all is zero, the limits too.
 pub fn record(words: &[u64], address: u64) -> Record {
     if address == 0 || !words.contains(&address) {
-        return Record { node: Node { address: 0, routers: 0, hosts: 0 }, found: 0 };
+        return Record { node: Node { address: 0, routers: 0, hosts: 0, router_limit: 0, host_limit: 0 }, found: 0 };
     }
     let children: Vec<bool> =
         words.iter().map(|word| bits(*word)).filter(|bits| parent(bits) == address).map(|bits| is_host(&bits)).collect();
     let count = |kind| children.iter().filter(|host| **host == kind).count().min(255) as u8;
-    Record { node: Node { address, routers: count(false), hosts: count(true) }, found: 1 }
+    Record { node: Node { routers: count(false), hosts: count(true), ..fresh(address) }, found: 1 }
 }

@@ -3,7 +3,7 @@
 pub mod journal;
 pub mod plan;
 
-use pasa::sys::{Address, Child, Hop, Listed, Node, Read, Written};
+use pasa::sys::{Address, Child, Hop, Limited, Listed, Node, Read, Written};
 
 /// "An address is a string of 1 to 64 bits whose first bit is 1." Most significant bit first.
 pub type Bits = Vec<bool>;
@@ -85,8 +85,12 @@ pub fn parent(bits: &[bool]) -> u64 {
     }
 }
 
-/// "For the root or a router of n bits each count is 0 to 64-n. For a host both are 0. Any other record is bad."
+/// "For the root or a router of n bits each count is 0 to 64-n. For a host both are 0. Any other record is bad." "A node record gains two
+/// limits, routers and hosts, 0 to 64 each, 64 meaning no cap; a limit above 64, or a count above its limit, makes the record bad (1)."
 fn is_good(node: Node) -> bool {
+    if node.router_limit > 64 || node.host_limit > 64 || node.routers > node.router_limit || node.hosts > node.host_limit {
+        return false;
+    }
     let own = bits(node.address);
     if own.is_empty() {
         return false;
@@ -95,7 +99,28 @@ fn is_good(node: Node) -> bool {
     usize::from(node.routers) <= most && usize::from(node.hosts) <= most
 }
 
-/// "For a child 1, 2, 3."
+/// "A fresh record gets 64 and 64".
+pub fn fresh(address: u64) -> Node {
+    Node { address, routers: 0, hosts: 0, router_limit: 64, host_limit: 64 }
+}
+
+fn count(node: Node, kind: Kind) -> u8 {
+    match kind {
+        Kind::Router => node.routers,
+        Kind::Host => node.hosts,
+    }
+}
+
+/// Whether a node has given all children of a kind that it may: "64 meaning no cap".
+fn is_at_limit(node: Node, kind: Kind) -> bool {
+    let limit = match kind {
+        Kind::Router => node.router_limit,
+        Kind::Host => node.host_limit,
+    };
+    limit != 64 && count(node, kind) == limit
+}
+
+/// "For a child 1, 2, 3."; "Asked for a child at its limit, a node answers 15, after 2 and before 3."
 pub fn child(node: Node, kind: Kind) -> Child {
     let refused = |refusal| Child { node, child: 0, refusal };
     if !is_good(node) {
@@ -105,11 +130,10 @@ pub fn child(node: Node, kind: Kind) -> Child {
     if is_host(&child) {
         return refused(2);
     }
-    let old = match kind {
-        Kind::Router => node.routers,
-        Kind::Host => node.hosts,
-    };
-    child.extend(step_bits((kind, usize::from(old))));
+    if is_at_limit(node, kind) {
+        return refused(15);
+    }
+    child.extend(step_bits((kind, usize::from(count(node, kind)))));
     if child.len() > 64 {
         return refused(3);
     }
@@ -119,6 +143,20 @@ pub fn child(node: Node, kind: Kind) -> Child {
         Kind::Host => raised.hosts += 1,
     }
     Child { node: raised, child: number(&child), refusal: 0 }
+}
+
+/// "Setting a limit outside 0 to 64 or below its count, or on a bad record, is refused with 1; otherwise the record comes back with that limit as
+/// asked and nothing else changed."
+pub fn limited(node: Node, kind: Kind, limit: u64) -> Limited {
+    if !is_good(node) || !(0..=64).contains(&limit) || limit < u64::from(count(node, kind)) {
+        return Limited { node, refusal: 1 };
+    }
+    let mut set = node;
+    match kind {
+        Kind::Router => set.router_limit = limit as u8,
+        Kind::Host => set.host_limit = limit as u8,
+    }
+    Limited { node: set, refusal: 0 }
 }
 
 /// "For a next hop from an address 1, 9, 7".
@@ -149,11 +187,7 @@ pub fn next_hop(node: Node, destination: u64) -> Hop {
         }
     }
     let (kind, index) = *steps(&child).last().unwrap();
-    let count = match kind {
-        Kind::Router => node.routers,
-        Kind::Host => node.hosts,
-    };
-    if index < usize::from(count) {
+    if index < usize::from(count(node, kind)) {
         Hop { node: number(&child), refusal: 0, action: 3 }
     } else {
         stopped(7)

@@ -1,5 +1,5 @@
 //! The commands, and what `help` says of each.
-use crate::{draw, header, ipv6, journal, next, path, plan, trace, Done, Failure};
+use crate::{child, draw, header, ipv6, journal, limit, next, path, plan, trace, Done, Failure};
 use std::ffi::OsString;
 use std::io::Write;
 
@@ -13,8 +13,19 @@ pub struct Command {
     pub run: fn(&[OsString], &mut dyn Write) -> Done,
 }
 
-static COMMANDS: [Command; 9] =
-    [path::COMMAND, next::COMMAND, plan::COMMAND, draw::COMMAND, trace::COMMAND, journal::COMMAND, header::COMMAND, ipv6::COMMAND, HELP];
+static COMMANDS: [Command; 11] = [
+    path::COMMAND,
+    next::COMMAND,
+    child::COMMAND,
+    limit::COMMAND,
+    plan::COMMAND,
+    draw::COMMAND,
+    trace::COMMAND,
+    journal::COMMAND,
+    header::COMMAND,
+    ipv6::COMMAND,
+    HELP,
+];
 
 const HELP: Command = Command {
     name: "help",
@@ -29,7 +40,9 @@ const USAGE: &str = "usage: hall COMMAND [ARGUMENTS], and 'hall help' lists the 
 const VERSION: &str = "  --version                 the version, and the number of the archive's interface\n";
 
 const ENDING: &str = "
-An address A is binary digits, as 111110, or a number, as 0x3e or 0b111110.
+An address A is binary digits, as 111110, or a number, as 0x3e or 0b111110. A RECORD is
+a node's address with the routers and the hosts given so far, as 110:2,1, and each of
+them with its limit where it has one, as 110:2/3,1.
 
 Exit status: 0 done; 1 refused, with 'refused N: text' on standard error; 2 wrong
 usage, text that cannot be read, a file that cannot be read or written.
@@ -53,7 +66,7 @@ fn asks_for_help(word: &OsString) -> bool {
 }
 
 fn list(out: &mut dyn Write) -> Done {
-    write!(out, "hall: addresses, paths, packets, plans, journals and trees, by proved functions\n\n")?;
+    write!(out, "hall: addresses, records, paths, packets, plans, journals and trees, by proved functions\n\n")?;
     for command in &COMMANDS {
         write!(out, "{}", command.list)?;
     }

@@ -14,7 +14,9 @@ pub const COMMAND: Command = Command {
     help: "\
 Says where the node with this record passes a packet for the destination. A record is
 the node's address with the router children and the host children given so far, as
-110:2,1; an address alone has given none.
+110:2,1; an address alone has given none. A count may have its limit behind it, as
+110:2/3,1: no packet goes otherwise for it, but a count above its limit, or a limit above
+64, makes the record bad.
 
     $ hall next 1:2,2 1101
     pass to child 110

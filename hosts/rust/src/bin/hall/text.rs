@@ -1,5 +1,6 @@
 //! Addresses and records as words of the command line.
-use pasa::{Address, Node, Refusal};
+use crate::kind::Kind;
+use pasa::{Address, Node, Refusal, NO_CAP};
 use std::ffi::OsString;
 
 /// What was expected, where a word is not that.
@@ -48,12 +49,26 @@ pub struct Record {
     hosts: Count,
 }
 
-/// A count, or nothing where it is larger than a record can hold.
-type Count = Option<u8>;
+/// A number, or nothing where it is larger than its type holds.
+type Number<T> = Option<T>;
 
-fn count(digits: &str) -> Option<Count> {
+/// The children of a kind given so far, and the limit on them where one is written.
+struct Count {
+    given: Number<u8>,
+    limit: Option<Number<u64>>,
+}
+
+fn decimal<T: std::str::FromStr>(digits: &str) -> Option<Number<T>> {
     let is_number = !digits.is_empty() && digits.bytes().all(|digit| digit.is_ascii_digit());
     is_number.then(|| digits.parse().ok())
+}
+
+/// A count, as `2`, or a count and its limit, as `2/3`.
+fn count(text: &str) -> Option<Count> {
+    match text.split_once('/') {
+        None => Some(Count { given: decimal(text)?, limit: None }),
+        Some((given, limit)) => Some(Count { given: decimal(given)?, limit: Some(decimal(limit)?) }),
+    }
 }
 
 fn counts(text: &str) -> Option<(Count, Count)> {
@@ -61,21 +76,48 @@ fn counts(text: &str) -> Option<(Count, Count)> {
     Some((count(routers)?, count(hosts)?))
 }
 
-/// The record in a word: an address, or an address with its counts of routers and hosts behind it, as `110:2,1`.
+/// The record in a word: an address, or an address with its counts of routers and hosts behind it, as `110:2,1`, and with their limits, as
+/// `110:2/3,1`.
 pub fn record(word: &str) -> Result<Record, Expected> {
     let (address, behind) = word.split_once(':').unwrap_or((word, "0,0"));
     let address = number(address)?;
-    let expected = || format!("a record, an address with its routers and hosts as 110:2,1, found '{word}'");
+    let expected = || format!("a record, an address with its routers and hosts as 110:2,1, or with a limit as 110:2/3,1, found '{word}'");
     let (routers, hosts) = counts(behind).ok_or_else(expected)?;
     Ok(Record { address, routers, hosts })
 }
 
+/// The limit in a word; nothing where it is larger than any number of 64 bits.
+pub fn limit(word: &str) -> Result<Number<u64>, Expected> {
+    decimal(word).ok_or_else(|| format!("a limit, 0 to {NO_CAP}, found '{word}'"))
+}
+
 impl Record {
-    /// The node that has this record. Address zero and a count that no record can hold make it bad: "Any other record is bad."
+    /// The node that has this record. Address zero and a number that no record can hold make it bad: "Any other record is bad." So does a limit
+    /// that cannot be set: it is above 64, or its count is above it.
     pub fn node(&self) -> Result<Node, Refusal> {
         let address = Address::new(self.address).map_err(|_| Refusal::BadRecord)?;
-        let routers = self.routers.ok_or(Refusal::BadRecord)?;
-        let hosts = self.hosts.ok_or(Refusal::BadRecord)?;
-        Ok(Node::restore(address, routers, hosts))
+        let given = |count: &Count| count.given.ok_or(Refusal::BadRecord);
+        let mut node = Node::restore(address, given(&self.routers)?, given(&self.hosts)?);
+        for (kind, count) in [(Kind::Router, &self.routers), (Kind::Host, &self.hosts)] {
+            if let Some(limit) = count.limit {
+                kind.limit_of(&mut node, limit.ok_or(Refusal::BadRecord)?)?;
+            }
+        }
+        Ok(node)
     }
+}
+
+/// A count as it is written, with its limit where it has one.
+pub fn counted(given: u8, limit: u8) -> String {
+    if limit == NO_CAP {
+        given.to_string()
+    } else {
+        format!("{given}/{limit}")
+    }
+}
+
+/// A record as it is written.
+pub fn shown(node: &Node) -> String {
+    let (routers, hosts) = (counted(node.routers(), node.router_limit()), counted(node.hosts(), node.host_limit()));
+    format!("{}:{routers},{hosts}", node.address())
 }

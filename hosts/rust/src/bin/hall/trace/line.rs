@@ -1,26 +1,13 @@
 //! Reading a line of a trace.
+use crate::kind::Kind;
 use crate::text::Expected;
 use pasa::Address;
-use std::fmt;
-
-#[derive(Clone, Copy)]
-pub enum Kind {
-    Router,
-    Host,
-}
-
-impl fmt::Display for Kind {
-    fn fmt(&self, f: &mut fmt::Formatter<'_>) -> fmt::Result {
-        f.write_str(match self {
-            Kind::Router => "router",
-            Kind::Host => "host",
-        })
-    }
-}
 
 pub enum Line {
     /// The kind of the child, and the node that is asked.
     Request(Kind, Address),
+    /// The kind that is limited, the node whose limit is set, and the limit.
+    Setting(Kind, Address, u64),
     /// The node that the packet starts from, and its destination.
     Send(Address, Address),
     Tree,
@@ -48,6 +35,16 @@ fn address(digits: &[u8]) -> Result<Address, Expected> {
     Address::new(number).map_err(|_| expected())
 }
 
+/// The limit that decimal digits give: it may be above 64, which is for the papers to refuse.
+fn limit(digits: &[u8]) -> Result<u64, Expected> {
+    let is_number = digits == b"0" || digits.first().is_some_and(|digit| (b'1'..=b'9').contains(digit));
+    let text = std::str::from_utf8(digits).ok().filter(|_| is_number && digits.iter().all(u8::is_ascii_digit));
+    let limit = text.and_then(|text| text.parse().ok());
+    limit.ok_or_else(|| format!("a limit in decimal digits, without a zero in front and of at most 64 bits, found '{}'", shown(digits)))
+}
+
+const COMMANDS: &str = "'router A', 'host A', 'limit A routers LIMIT', 'limit A hosts LIMIT', 'send A D' or 'tree'";
+
 /// The command of a line, which comes without its newline.
 pub fn read(line: &[u8]) -> Result<Line, Expected> {
     if line.is_empty() || line.starts_with(b"#") {
@@ -57,8 +54,10 @@ pub fn read(line: &[u8]) -> Result<Line, Expected> {
     match words[..] {
         [b"router", asked] => Ok(Line::Request(Kind::Router, address(asked)?)),
         [b"host", asked] => Ok(Line::Request(Kind::Host, address(asked)?)),
+        [b"limit", asked, b"routers", number] => Ok(Line::Setting(Kind::Router, address(asked)?, limit(number)?)),
+        [b"limit", asked, b"hosts", number] => Ok(Line::Setting(Kind::Host, address(asked)?, limit(number)?)),
         [b"send", from, to] => Ok(Line::Send(address(from)?, address(to)?)),
         [b"tree"] => Ok(Line::Tree),
-        _ => Err(format!("'router A', 'host A', 'send A D' or 'tree', with one space between words, found '{}'", shown(line))),
+        _ => Err(format!("{COMMANDS}, with one space between words, found '{}'", shown(line))),
     }
 }

@@ -1,15 +1,17 @@
-//! `hall trace [--plan PLAN] [FILE]`: grows a tree from a list of requests, beginning with the root or with a plan's hall, and shows the way of
-//! packets through it.
+//! `hall trace [--plan PLAN] [FILE]`: grows a tree from a list of requests and settings of limits, beginning with the root or with a plan's hall,
+//! and shows the way of packets through it.
 //!
-//! Every address is `Node::router_child`'s or `Node::host_child`'s answer, every packet is a header that `write_header` wrote, and every hop
+//! Every address is `Node::router_child`'s or `Node::host_child`'s answer, every limit is set by `Node::set_router_limit` or
+//! `Node::set_host_limit`, every packet is a header that `write_header` wrote, and every hop
 //! is `packet_next_hop`'s answer with the record of the node that the packet has reached.
 mod line;
 pub mod tree;
 mod way;
 
 use crate::commands::{wrong, Command};
+use crate::kind::Kind;
 use crate::{input, plan, Done, Failure};
-use line::{Kind, Line};
+use line::Line;
 use pasa::Address;
 use std::ffi::{OsStr, OsString};
 use std::io::{self, BufRead, BufReader, Read, Write};
@@ -29,20 +31,30 @@ pub const COMMAND: Command = Command {
 Reads commands from FILE or from standard input, one a line, and answers each. The tree
 begins with the root, 1, alone; addresses are binary digits.
 
-    router A     ask node A for a router
-    host A       ask node A for a host
-    send A D     a packet for D from node A
-    tree         print the tree as it stands
+    router A                ask node A for a router
+    host A                  ask node A for a host
+    limit A routers LIMIT   set how many routers node A may give; 64 is no limit
+    limit A hosts LIMIT     set how many hosts node A may give
+    send A D                a packet for D from node A
+    tree                    print the tree as it stands
 
-Empty lines and lines that begin with # are passed over. A refused request or packet is
-an answer like any other. A line that is none of these ends the trace: 'bad input at
-line K' on standard error, exit status 2.
+Empty lines and lines that begin with # are passed over. A refused request, setting or
+packet is an answer like any other. A line that is none of these ends the trace: 'bad
+input at line K' on standard error, exit status 2.
 
     $ printf 'router 1\\nhost 1\\nsend 10 11\\nrouter 11\\n' | hall trace
     router of 1: 10
     host of 1: 11
     send 10 to 11: 10 1 11 delivered, 2 hops
     router of 11: refused 2
+    $ printf 'limit 1 hosts 1\\nhost 1\\nhost 1\\nlimit 1 hosts 0\\ntree\\n' | hall trace
+    limit 1 hosts 1: set
+    host of 1: 11
+    host of 1: refused 15
+    limit 1 hosts 0: refused 1
+    tree
+    1 routers 0 hosts 1/1
+      11 routers 0 hosts 0
 
 With --plan the tree begins with the nodes of a hall plan, as they stand after the plan's
 own requests. PLAN is read as 'hall plan' reads it; - is standard input for one of both.
@@ -114,6 +126,7 @@ fn next_line(input: &mut BufReader<Box<dyn Read>>, text: &mut Vec<u8>, name: &st
 fn obey(line: Line, tree: &mut Tree, out: &mut dyn Write) -> io::Result<()> {
     match line {
         Line::Request(kind, asked) => request(kind, asked, tree, out),
+        Line::Setting(kind, asked, limit) => set_limit(kind, asked, limit, tree, out),
         Line::Send(from, to) => way::send(from, to, tree, out),
         Line::Tree => tree.show(out),
         Line::Nothing => Ok(()),
@@ -125,6 +138,15 @@ fn request(kind: Kind, asked: Address, tree: &mut Tree, out: &mut dyn Write) -> 
     match tree.request(kind, asked) {
         None => writeln!(out, " no such node"),
         Some(Ok(child)) => writeln!(out, " {child}"),
+        Some(Err(refusal)) => writeln!(out, " refused {}", refusal.number()),
+    }
+}
+
+fn set_limit(kind: Kind, asked: Address, limit: u64, tree: &mut Tree, out: &mut dyn Write) -> io::Result<()> {
+    write!(out, "limit {asked} {kind}s {limit}:")?;
+    match tree.set_limit(kind, asked, limit) {
+        None => writeln!(out, " no such node"),
+        Some(Ok(())) => writeln!(out, " set"),
         Some(Err(refusal)) => writeln!(out, " refused {}", refusal.number()),
     }
 }

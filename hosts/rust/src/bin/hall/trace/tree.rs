@@ -1,5 +1,6 @@
 //! The tree that a trace grows: the record of each node, by its address.
-use super::line::Kind;
+use crate::kind::Kind;
+use crate::text::counted;
 use pasa::{Address, Node, Refusal};
 use std::collections::BTreeMap;
 use std::io::{self, Write};
@@ -61,14 +62,17 @@ impl Tree {
     /// Asks a node for a child and takes the child into the tree; nothing where the node is not in it.
     pub fn request(&mut self, kind: Kind, asked: Address) -> Option<Result<Address, Refusal>> {
         let node = self.nodes.get_mut(&Position::of(asked))?;
-        let answer = match kind {
-            Kind::Router => node.router_child(),
-            Kind::Host => node.host_child(),
-        };
+        let answer = kind.child_of(node);
         if let Ok(child) = answer {
             self.take_in(child);
         }
         Some(answer)
+    }
+
+    /// Sets a limit of a node; nothing where the node is not in the tree.
+    pub fn set_limit(&mut self, kind: Kind, asked: Address, limit: u64) -> Option<Result<(), Refusal>> {
+        let node = self.nodes.get_mut(&Position::of(asked))?;
+        Some(kind.limit_of(node, limit))
     }
 
     /// Prints a line for each node, each behind its parent.
@@ -81,9 +85,11 @@ impl Tree {
     }
 }
 
-/// Two spaces for each step of the depth, the address, and the children of each kind that the node has given.
+/// Two spaces for each step of the depth, the address, and the children of each kind that the node has given, with their limit where they have
+/// one.
 fn row(node: &Node, out: &mut dyn Write) -> io::Result<()> {
     let address = node.address();
     let indent = 2 * address.depth() as usize;
-    writeln!(out, "{:indent$}{address} routers {} hosts {}", "", node.routers(), node.hosts())
+    let (routers, hosts) = (counted(node.routers(), node.router_limit()), counted(node.hosts(), node.host_limit()));
+    writeln!(out, "{:indent$}{address} routers {routers} hosts {hosts}", "")
 }
