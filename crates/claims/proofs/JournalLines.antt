@@ -393,6 +393,7 @@ wrong-journal-rules = record {
   tornNotSkipped = wrong-recoveries-excluded .tornNotSkipped;
   gapNotSeen = wrong-recoveries-excluded .gapNotSeen;
   roomBeforeLength = wrong-recoveries-excluded .otherOrder;
+  withLimits = wrong-recoveries-excluded .otherLimits;
   zeroStart = wrong-checks .zeroStart;
   otherPolynomial = wrong-checks .otherPolynomial;
   lowBit = wrong-checks .lowBit;

@@ -2,9 +2,7 @@
 use Prim.Native.Nat.{ℕ, _+_, _^_, _<_}
 use mathlib.Core.Path.{_≡_, refl}
 use mathlib.Core.Logic.{inl, inr}
-use Rattle.address.specs.Bits.{lastBit, bitsIn, bits, digit, numberFrom, number}
-use Rattle.address.specs.Steps.{lastOf, stepBits}
-use Rattle.address.specs.Address.{bitLength, endsInOne, isHost}
+use Rattle.address.specs.Address.{bitLength}
 use Rattle.address.specs.Kinds.{IsHost}
 use Rattle.address.specs.Order.{Order, done, _when_otherwise_, First, GivenExactly}
 use Rattle.address.specs.declared.Kind.{Kind}
@@ -16,7 +14,7 @@ use Rattle.node.specs.declared.Node.{Node}
 use Rattle.node.proofs.RefusalLaws.{good-records, setting-refusals}
 use Rattle.node.proofs.Settings.{sets-limits, one-setting, no-cap-good, no-cap-never, no-cap-order}
 use Rattle.node.proofs.Promises.{limit-promise, limit-asks-nothing, set-limit-promise, set-limit-asks-nothing}
-use Rattle.node.proofs.WrongRules.{pastLimit-refuted, limitless-refuted, liftsLimits-refuted, oneLimit-refuted, oneMore-refuted, limitLast-refuted, limitFirst-refuted}
+use Rattle.node.proofs.WrongRules.{pastLimit-refuted, limitless-refuted, liftsLimits-refuted, oneLimit-refuted, oneEarly-refuted, limitLast-refuted, limitFirst-refuted}
 use Rattle.node.proofs.WrongRules.{setsNothing-refuted, setsBelow-refuted, setsAbove-refuted, setsCut-refuted, setsBoth-refuted, setsOther-refuted, mendsRecord-refuted}
 use Rattle.forward.specs.Forward.{nextHop}
 use Rattle.forward.proofs.Rules.{nextHop-withLimits}
@@ -101,7 +99,7 @@ no-cap = record {
 }
 
 pub values-of-five : ValuesOfFive
-unfolding lastBit bitsIn bits digit numberFrom number lastOf stepBits bitLength endsInOne isHost trees-opened nextHop
+unfolding trees-opened nextHop
 values-of-five = record {
   otherLimits = λ r h n. refl;
   noChild = λ k n. refl;
@@ -148,7 +146,7 @@ wrong-limits = record {
   unseenByDemand3 = liftsLimits-demand3;
   withoutAny = limitless-refuted;
   withOneForBoth = oneLimit-refuted;
-  withOneMore = oneMore-refuted;
+  withOneEarly = oneEarly-refuted;
   withLimitLast = limitLast-refuted;
   withLimitFirst = limitFirst-refuted;
 }

@@ -27,12 +27,12 @@ use Rattle.journal.specs.Slots.{slotsOf}
 use Rattle.journal.specs.Recovery.{recovering}
 use Rattle.journal.specs.Writing.{withSlot, writing}
 use Rattle.journal.specs.Record.{children, recordIn}
-use Rattle.journals.specs.Replays.{recovered, IsNextChild, IsReplayed, IsFirstFault}
+use Rattle.journals.specs.Replays.{recovered, IsNextChild, IsReplayed, IsFirstFault, Records}
 use Rattle.journals.specs.Slots.{IsLength, Holds, AllErased, Right, Fault}
 use Rattle.journals.specs.Refusals.{RecoverRule, RecoverRefusals, WriteRule, WriteRefusals, Written, NoneErased, IsFirstErased}
 use Rattle.journals.specs.PowerCuts.{Accepts, AfterWrite, storedAt, inOrder, PowerCut}
 use Rattle.journals.specs.Orders.{IsOrder}
-use Rattle.journals.specs.WrongRecoveries.{notCleared, notZeroed, tornRefused, gapsAllowed, roomFirst}
+use Rattle.journals.specs.WrongRecoveries.{notCleared, notZeroed, tornRefused, gapsAllowed, roomFirst, closedRecords}
 use Rattle.journals.specs.WrongWriters.{unchecked, overTorn, otherBlock, idle, refusesAll, lastSlot}
 use Rattle.journals.specs.RoundTrip.{joined, AreBlocks, AllWritten}
 
@@ -347,6 +347,8 @@ pub record WrongJournalRules : Type 0 where
   pub tornNotSkipped : RecoverRefusals tornRefused → ⊥
   pub gapNotSeen : RecoverRefusals gapsAllowed → ⊥
   pub roomBeforeLength : RecoverRefusals roomFirst → ⊥
+  -- a record from the words with 0 and 0 for limits
+  pub withLimits : Records closedRecords → ⊥
   -- a check that starts at 0, by another polynomial, low bit first, low half octet first, inverted at the end, without the last half octet
   pub zeroStart : startingAtZero nine ≡ 0x29B1 → ⊥
   pub otherPolynomial : ofPolynomial8005 nine ≡ 0x29B1 → ⊥

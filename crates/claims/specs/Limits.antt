@@ -20,7 +20,7 @@ use Rattle.node.specs.declared.Given.{Given}
 use Rattle.node.specs.declared.Limited.{Limited}
 use Rattle.node.specs.Node.{addressIn, fresh, withCounts, count, raised, limit, withLimits, withLimit, isGood, refuseChild, childOf, refuseSetting, setLimit}
 use Rattle.node.specs.Refusals.{IsGood, IsBad, ChildRefusals, SettingRefusals}
-use Rattle.node.specs.WrongRules.{pastLimit, limitless, liftsLimits, oneLimit, oneMore, limitLast, limitFirst}
+use Rattle.node.specs.WrongRules.{pastLimit, limitless, liftsLimits, oneLimit, oneEarly, limitLast, limitFirst}
 use Rattle.node.specs.WrongRules.{setsNothing, setsBelow, setsAbove, setsCut, setsBoth, setsOther, mendsRecord}
 use Rattle.forward.specs.Forward.{refusedHop, nextHop}
 use Rattle.packet.specs.Packet.{packetHop}
@@ -174,10 +174,10 @@ pub record WrongLimits : Type 0 where
   -- one that takes them away: its records stay good, so demand 3 is true of it, and demand 1 alone excludes it
   pub thatLiftsThem : ChildRefusals liftsLimits → ⊥
   pub unseenByDemand3 : (es : List Event) → Demand3 liftsLimits setLimit packetHop es
-  -- one that looks at no limit at all; one limit for both kinds; one child more; 15 after 3; 15 before 2
+  -- one that looks at no limit at all; one limit for both kinds; one child too early; 15 after 3; 15 before 2
   pub withoutAny : ChildRefusals limitless → ⊥
   pub withOneForBoth : ChildRefusals oneLimit → ⊥
-  pub withOneMore : ChildRefusals oneMore → ⊥
+  pub withOneEarly : ChildRefusals oneEarly → ⊥
   pub withLimitLast : ChildRefusals limitLast → ⊥
   pub withLimitFirst : ChildRefusals limitFirst → ⊥
 

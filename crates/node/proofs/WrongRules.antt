@@ -1,17 +1,18 @@
 -- Each wrong rule is refuted by its answer to one record: the right rule's number there is the only one that the statement allows.
 use mathlib.Core.Path.{_≡_, refl, ap}
 use native.Mathlib.Omega.{arith}
+use lib.Dec.{eqb}
 use Rattle.address.specs.Bits.{lastBit, bitsIn, bits, digit, numberFrom, number, root}
 use Rattle.address.specs.Steps.{lastOf, stepBits}
 use Rattle.address.specs.Address.{bitLength, endsInOne, isHost}
 use Rattle.address.specs.declared.Kind.{Kind}
 use Rattle.address.specs.declared.Kind.the-variants.{Router, Host}
-use Rattle.node.specs.Node.{Node, Given, fresh, withCounts, limit, withLimits}
+use Rattle.node.specs.Node.{Node, Given, fresh, withCounts, count, limit, withLimits, isGood}
 use Rattle.node.specs.Node.{childOf}
 use Rattle.node.specs.Refusals.{ChildRefusals, SettingRefusals}
 use Rattle.node.proofs.Opened.{records-opened}
 use Rattle.node.specs.WrongRules.{givesChild, refusesAll, rootIsHost, hostFirst, oneTooMany, shortOfLimit, addressBeside}
-use Rattle.node.specs.WrongRules.{childBy, pastLimit, limitless, liftsLimits, oneLimit, oneMore, limitLast, limitFirst}
+use Rattle.node.specs.WrongRules.{childBy, pastLimit, limitless, liftsLimits, oneLimit, oneEarly, limitLast, limitFirst}
 use Rattle.node.specs.WrongRules.{settingBy, allowedLimit, setsNothing, setsBelow, setsAbove, setsCut, setsBoth, mendsRecord, other, setsOther}
 use Rattle.node.proofs.RefusalLaws.{child-refusals}
 use Rattle.node.proofs.Settings.{same-refusal}
@@ -56,6 +57,11 @@ addressBeside-refuted claim = omega (arith, claim .beside (fresh 0b11) Router (�
 
 -- ---- limits
 
+-- with the right tests the rule is the right one
+childBy-right : (n : Node) (kind : Kind) → childBy isGood (λ kind n. eqb (count kind n) (limit kind n)) n kind ≡ childOf n kind
+unfolding childBy childOf givesChild
+childBy-right n kind = refl
+
 -- the root at its limit of 0
 pub pastLimit-refuted : ChildRefusals pastLimit → ⊥
 unfolding opened pastLimit
@@ -75,10 +81,10 @@ pub oneLimit-refuted : ChildRefusals oneLimit → ⊥
 unfolding opened oneLimit
 oneLimit-refuted claim = omega (arith, same-number oneLimit claim (withLimits 0 64 (fresh root)) Host)
 
--- the root with one router of one
-pub oneMore-refuted : ChildRefusals oneMore → ⊥
-unfolding opened oneMore
-oneMore-refuted claim = omega (arith, same-number oneMore claim (withLimits 1 1 (withCounts 1 0 (fresh root))) Router)
+-- the root that may give one router
+pub oneEarly-refuted : ChildRefusals oneEarly → ⊥
+unfolding opened oneEarly
+oneEarly-refuted claim = omega (arith, same-number oneEarly claim (withLimits 1 1 (fresh root)) Router)
 
 -- a router of 64 bits that may give none
 pub limitLast-refuted : ChildRefusals limitLast → ⊥

@@ -1,5 +1,5 @@
 -- Wrong rules for a child and for a setting that give a wrong refusal, or a right one with something beside it: what demand 1 must exclude. Each
--- goes by the right rule with one part exchanged.
+-- goes by the right rule with a part exchanged.
 use Prim.Native.Nat.{ℕ, _+_, _-_, _%_}
 use mathlib.Core.Bool.{Bool, false, not, _&&_}
 use lib.ListN.{length}
@@ -79,9 +79,9 @@ liftsLimits n kind = childOf (withLimits noCap noCap n) kind
 unfoldable pub oneLimit : Node → Kind → Given
 oneLimit = childBy isGood (λ kind n. eqb (count kind n) (limit Router n))
 
--- one child more than the limit
-unfoldable pub oneMore : Node → Kind → Given
-oneMore = childBy isGood (λ kind n. eqb (count kind n) (limit kind n + 1))
+-- one child too early
+unfoldable pub oneEarly : Node → Kind → Given
+oneEarly = childBy isGood (λ kind n. eqb (count kind n + 1) (limit kind n))
 
 -- 15 after 3
 unfoldable pub limitLast : Node → Kind → Given

@@ -1,4 +1,4 @@
--- The answers about a journal as structs of plain numbers: the same numbers, in fields of the same names.
+-- The answers about a journal as structs of plain numbers: the same numbers, in fields of the same names; but a record that is not found is all zeros.
 use Prim.Native.Nat.{ℕ}
 use mathlib.Core.Bool.{Bool, true, false}
 use Rattle.journal.specs.declared.Placed.{Placed}

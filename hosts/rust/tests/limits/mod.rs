@@ -58,14 +58,14 @@ const ADDRESSES: [u64; 10] = [0, 1, 0b10, 0b11, 0b110, 0b101, 1 << 62, (1 << 62)
 
 /// Every record whose four numbers are about a boundary, asked for both kinds; each setting of it in its turn.
 fn every_record(met: &mut Met) {
-    let mut turns = settings().collect::<Vec<_>>().into_iter().cycle();
+    let mut turns = KINDS.map(|_| settings().collect::<Vec<_>>().into_iter().cycle());
     for address in ADDRESSES {
         for (routers, hosts) in ABOUT.iter().flat_map(|a| ABOUT.map(|b| (*a, b))) {
             for (router_limit, host_limit) in ABOUT.iter().flat_map(|a| ABOUT.map(|b| (*a, b))) {
                 let node = Node { address, routers, hosts, router_limit, host_limit };
-                for kind in KINDS {
+                for (kind, turn) in KINDS.into_iter().zip(&mut turns) {
                     met.ask(node, kind);
-                    met.set(node, kind, turns.next().unwrap());
+                    met.set(node, kind, turn.next().unwrap());
                 }
             }
         }
@@ -203,7 +203,10 @@ impl Trees {
         while met.len() <= PATH_MOST {
             let node = &self.crates[met.last().unwrap()];
             match node.packet_next_hop(&packet) {
-                Ok(Hop::Deliver(_)) => return (met, 0),
+                Ok(Hop::Deliver(named)) => {
+                    assert_eq!(Some(&named.number()), met.last(), "a delivery from {from:#b} for {to:#b} names another node");
+                    return (met, 0);
+                }
                 Ok(Hop::Parent(next) | Hop::Child(next)) => met.push(next.number()),
                 Err(refusal) => return (met, refusal.number()),
             }
@@ -287,7 +290,7 @@ fn trees_under_limits() {
     ways.met(&[0, 7]);
 }
 
-/// The root alone: a limit of each kind, children up to it and one more, and the limit raised, in every order of limits.
+/// The root alone: a limit of each kind, children up to it and one more, and the limit raised, for every limit from 0 to 64.
 #[test]
 fn a_limit_is_reached_and_raised() {
     for (kind, limit) in KINDS.iter().flat_map(|kind| (0..=64).map(move |limit| (*kind, limit))) {

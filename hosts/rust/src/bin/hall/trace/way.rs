@@ -22,7 +22,7 @@ pub fn send(from: Address, to: Address, tree: &Tree, out: &mut dyn Write) -> io:
     walk(&octets[..size], from, tree, out)
 }
 
-/// In every tree that requests can grow, a packet meets at most as many nodes as a path has, and each is in the tree; the other two endings
+/// In every tree that requests and settings grow, a packet meets at most as many nodes as a path has, and each is in the tree; the other two endings
 /// are there so that no fault could run on.
 fn walk(packet: &[u8], from: Address, tree: &Tree, out: &mut dyn Write) -> io::Result<()> {
     let mut at = from;
