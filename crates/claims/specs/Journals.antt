@@ -1,5 +1,5 @@
--- Request Four: a journal that outlives a power cut. First the check, the block and the slots, number by number; then what a right journal is and
--- what its first fault; then recovery, the writer, the power cut and a node's record.
+-- Request Four, with the numbers of Six: a journal that outlives a power cut. First the check, the block and the slots, number by number; then what a
+-- right journal is and what its first fault; then recovery, the writer, the power cut and a node's record.
 use Prim.Native.Nat.{ℕ, suc, min, _+_, _*_, _-_, _/_, _%_, _^_, _<_, _≤_}
 use mathlib.Core.Path.{_≡_}
 use mathlib.Core.Bool.{true, false}
@@ -105,21 +105,21 @@ pub record TheSlots : Type 0 where
   -- request Five: "The journal holds no limits, so recovered nodes have 64 and 64."
   pub withoutLimits : (n : Node)
       → recovered n ≡ record { address = n .address; routers = n .routers; hosts = n .hosts; limits = record { routers = 64; hosts = 64 } }
-  -- addresses replayed without a fault: those given in a list of requests alone, whose tree has not more than 512 nodes
+  -- addresses replayed without a fault: those given in a list of requests alone, whose tree has not more than 4,096 nodes
   pub isReplayed : (xs nodes : List ℕ)
       → IsReplayed xs nodes
       ↔ ((rs : List Request) × (xs ≡ givenIn childOf setLimit (map asking rs)) × (nodes ≡ addresses (grown childOf setLimit (map asking rs)))
-      × (length nodes ≤ 512))
+      × (length nodes ≤ 4096))
   -- and those of every list with settings in it are
-  pub withSettings : (es : List Event) → length (addresses (grown childOf setLimit es)) ≤ 512
+  pub withSettings : (es : List Event) → length (addresses (grown childOf setLimit es)) ≤ 4096
       → IsReplayed (givenIn childOf setLimit es) (addresses (grown childOf setLimit es))
-  -- the first address with a fault: "a 513th node, the root counted, is 14, but 17 if it is no next child"
+  -- the first address with a fault: "a [4,097th] node, the root counted, is 14, but 17 if it is no next child"
   pub isFirstFault : (xs : List ℕ) (n : ℕ)
       → IsFirstFault xs n
       ↔ ((rs : List Request) × (a : ℕ) × (rest : List ℕ) × (xs ≡ givenIn childOf setLimit (map asking rs) ++ (a ∷ rest))
-      × (length (addresses (grown childOf setLimit (map asking rs))) ≤ 512)
+      × (length (addresses (grown childOf setLimit (map asking rs))) ≤ 4096)
       × (((n ≡ 17) × (IsNextChild (grown childOf setLimit (map asking rs)) a → ⊥))
-      ⊎ ((n ≡ 14) × IsNextChild (grown childOf setLimit (map asking rs)) a × (512 ≤ length (addresses (grown childOf setLimit (map asking rs)))))))
+      ⊎ ((n ≡ 14) × IsNextChild (grown childOf setLimit (map asking rs)) a × (4096 ≤ length (addresses (grown childOf setLimit (map asking rs)))))))
   -- a right journal: torn slots and right blocks, then erased slots
   pub right : (slots : List (List ℕ)) (nodes : List ℕ)
       → Right slots nodes
@@ -151,11 +151,11 @@ pub record TheSlots : Type 0 where
   pub freeNone : NoneErased [] ↔ Unit {0}
   pub freeOne : (slot : List ℕ) (slots : List (List ℕ)) → NoneErased (slot ∷ slots) ↔ ((slot ≡ replicate 512 0xFF → ⊥) × NoneErased slots)
 
--- "Recovery first checks the length (12), then that at least 512 words are lent (10), then takes slots in order, the first fault deciding"
+-- "Recovery first checks the length (12), then that at least [4,096] words are lent (10), then takes slots in order, the first fault deciding"
 abbrev pub recoverOrder : List ℕ → List ℕ → Order
 recoverOrder journal words =
     12 when (IsLength (length journal) → ⊥)
-    otherwise 10 when length words < 512
+    otherwise 10 when length words < 4096
     otherwise 14 when Fault (slotsOf journal) 14
     otherwise 17 when Fault (slotsOf journal) 17
     otherwise done
@@ -188,13 +188,13 @@ pub record JournalRefusals : Type 0 where
 
 -- recovery with these nodes: "Success returns the number of nodes and leaves root and addresses in order, then zeros to the list's end."
 abbrev pub RecoversTo : List ℕ → List ℕ → Type 0
-RecoversTo journal nodes = (words : List ℕ) → 512 ≤ length words
+RecoversTo journal nodes = (words : List ℕ) → 4096 ≤ length words
     → recovering journal words
     ≡ record { answer = record { refusal = 0; nodes = length nodes }; words = nodes ++ replicate (length words - length nodes) 0 }
 
 -- the same by any recovery
 abbrev pub RecoversBy : RecoverRule → List ℕ → List ℕ → Type 0
-RecoversBy recover journal nodes = (words : List ℕ) → 512 ≤ length words
+RecoversBy recover journal nodes = (words : List ℕ) → 4096 ≤ length words
     → recover journal words
     ≡ record { answer = record { refusal = 0; nodes = length nodes }; words = nodes ++ replicate (length words - length nodes) 0 }
 
@@ -216,13 +216,13 @@ pub record TheJournal : Type 0 where
   -- every list of addresses given since a bare root, whatever limits were set meanwhile, cut into blocks of 1 to 63 in any way, is written without a refusal and recovered exactly,
   -- where the slots suffice, and the nodes
   pub everyList : (slots : ℕ) (es : List Event) (blocks : List (List ℕ)) → 1 ≤ slots → slots ≤ 128
-      → givenIn childOf setLimit es ≡ joined blocks → AreBlocks blocks → length blocks ≤ slots → length (addresses (grown childOf setLimit es)) ≤ 512
+      → givenIn childOf setLimit es ≡ joined blocks → AreBlocks blocks → length blocks ≤ slots → length (addresses (grown childOf setLimit es)) ≤ 4096
       → AllWritten writing (replicate (512 * slots) 0xFF) blocks (λ after. RecoversTo after (addresses (grown childOf setLimit es)))
   -- and on from any journal, slots lost to torn blocks counted
   pub onward : (journal : List ℕ) (kept : List (List ℕ)) (es more : List Event) (blocks : List (List ℕ)) → AreOctets journal
       → Written (slotsOf journal) kept → RecoversTo journal (addresses (grown childOf setLimit es))
       → addresses (grown childOf setLimit (es ++ more)) ≡ addresses (grown childOf setLimit es) ++ joined blocks → AreBlocks blocks
-      → length kept + length blocks ≤ length (slotsOf journal) → length (addresses (grown childOf setLimit (es ++ more))) ≤ 512
+      → length kept + length blocks ≤ length (slotsOf journal) → length (addresses (grown childOf setLimit (es ++ more))) ≤ 4096
       → AllWritten writing journal blocks (λ after. RecoversTo after (addresses (grown childOf setLimit (es ++ more))))
   pub noBlocks : (joined [] ≡ []) × (AreBlocks [] ↔ Unit {0})
   pub blocksOne : (xs : List ℕ) (blocks : List (List ℕ))

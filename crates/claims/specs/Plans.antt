@@ -1,4 +1,5 @@
--- Request One: the text of a hall's plan, the hall that it describes, and the tree that it is. Demand1 has the refusals of the reading.
+-- Request One, with the numbers of Six: the text of a hall's plan, the hall that it describes, and the tree that it is. Demand1 has the refusals of
+-- the reading.
 use Prim.Native.Nat.{ℕ, max, _+_, _<_, _≤_}
 use mathlib.Core.Path.{_≡_}
 use mathlib.Core.Logic.{_⊎_, _↔_}
@@ -99,5 +100,5 @@ pub record WhatIsRead : Type 0 where
   -- "Then an address too long: 3.": exactly if one of the plan's requests is refused with 3
   pub tooLong : (text words : List ℕ)
       → (planning text words .answer .refusal ≡ 3)
-      ↔ ((length text ≤ 4096)
-      × ((plan : Items) × Spells text plan × ((nodes plan ≤ 512) × List·Memᴰ (replied 3 0) (grow childOf setLimit bareRoot (map asking (requests plan)) .replies))))
+      ↔ ((length text ≤ 32768)
+      × ((plan : Items) × Spells text plan × ((nodes plan ≤ 4096) × List·Memᴰ (replied 3 0) (grow childOf setLimit bareRoot (map asking (requests plan)) .replies))))

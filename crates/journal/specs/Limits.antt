@@ -5,6 +5,6 @@ use Prim.Native.Nat.{ℕ}
 abbrev pub mostSlots : ℕ
 mostSlots = 128
 
--- "a 513th node, the root counted, is 14", and "at least 512 words are lent"
+-- "a recovered journal may now have 4,096 nodes, the root counted .. Recovery wants 4,096 words lent."
 abbrev pub mostNodes : ℕ
-mostNodes = 512
+mostNodes = 4096

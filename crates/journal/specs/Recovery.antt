@@ -1,4 +1,4 @@
--- Recovery: "Recovery first checks the length (12), then that at least 512 words are lent (10), then takes slots in order .. Success returns the
+-- Recovery: "Recovery first checks the length (12), then that at least [4,096] words are lent (10), then takes slots in order .. Success returns the
 -- number of nodes and leaves root and addresses in order, then zeros to the list's end. Recovery's 14 and 17 leave the list all zeros".
 use Prim.Native.Nat.{ℕ, _*_, _-_, _%_}
 use mathlib.Core.Bool.{Bool, not, _&&_}
@@ -16,7 +16,7 @@ pub use Rattle.journal.specs.declared.Recovered.{Recovered}
 unfoldable pub isLength : ℕ → Bool
 isLength bytes = eqb (bytes % slotBytes) 0 && leb slotBytes bytes && leb bytes (mostSlots * slotBytes)
 
--- "Recovery first checks the length (12), then that at least 512 words are lent (10)": the refusal of so many bytes and words, 0 where neither is
+-- "Recovery first checks the length (12), then that at least [4,096] words are lent (10)": the refusal of so many bytes and words, 0 where neither is
 -- wrong
 unfoldable pub unfit : ℕ → ℕ → ℕ
 unfit bytes words = if not (isLength bytes) then 12 else if ltb words mostNodes then 10 else 0

@@ -1,5 +1,5 @@
 -- The addresses of a journal, taken one after the other. "whose addresses each are the next child of a node already known, starting from a bare
--- root; otherwise 17"; "a 513th node, the root counted, is 14, but 17 if it is no next child".
+-- root; otherwise 17"; "a [4,097th] node, the root counted, is 14, but 17 if it is no next child".
 use Prim.Native.Nat.{ℕ, _-_, _/_, _%_}
 use mathlib.Core.Bool.{Bool, true, false, not, _&&_, _||_}
 use mathlib.Core.List.{List, [], _∷_, _++_}

@@ -19,7 +19,7 @@ ghost use Rattle.journal.specs.Follows.{Follows};
 ghost use Rattle.journal.specs.Reader.{step, run, begin, finished};
 ghost use Rattle.journal.specs.Writing.{judging, writing};
 
-// Refusals: "the journal's length is wrong or n is outside 1 to 63"; fewer than 512 words lent, and "no slot is erased"; "a 513th node";
+// Refusals: "the journal's length is wrong or n is outside 1 to 63"; fewer than 4,096 words lent, and "no slot is erased"; "a [4,097th] node";
 // anything else in the journal or in the block that is not right.
 pub const WRONG_LENGTH: u8 = 12;
 
@@ -32,7 +32,7 @@ pub const BAD_JOURNAL: u8 = 17;
 // How many slots a journal may have, and how many nodes may be recovered from it, with the root.
 pub const MOST_SLOTS: usize = 128;
 
-pub const MOST_NODES: usize = 512;
+pub const MOST_NODES: usize = 4096;
 
 // "erased to 0xFF"
 const ERASED: u8 = 0xFF;
@@ -322,7 +322,7 @@ fn is_length(bytes: usize) -> bool
     bytes <= MOST_SLOTS * block::SLOT
 }
 
-// "Recovery first checks the length (12), then that at least 512 words are lent (10)": a refusal's number, 0 where neither is wrong.
+// "Recovery first checks the length (12), then that at least [4,096] words are lent (10)": a refusal's number, 0 where neither is wrong.
 pub fn unfit(bytes: usize, words: usize) -> u8
     ensures { λ r. ⌜ r ≡ unfit bytes words ⌝ }
 {

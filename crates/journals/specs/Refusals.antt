@@ -27,7 +27,7 @@ abbrev pub recoverOrder : List ℕ → List ℕ → Order
 recoverOrder journal words =
     -- "Recovery first checks the length (12)"
     12 when (IsLength (length journal) → ⊥)
-    -- "then that at least 512 words are lent (10)"
+    -- "then that at least [4,096] words are lent (10)"
     otherwise 10 when length words < mostNodes
     -- "then takes slots in order, the first fault deciding"
     otherwise 14 when Fault (slotsOf journal) 14

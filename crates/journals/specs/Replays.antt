@@ -54,7 +54,7 @@ pub record IsReplayed (journal nodes : List ℕ) : Type 0 where
   pub theNodes : nodes ≡ nodesOf (alone requests)
   pub few : length nodes ≤ mostNodes
 
--- which fault one address more is: "a 513th node, the root counted, is 14, but 17 if it is no next child"
+-- which fault one address more is: "a [4,097th] node, the root counted, is 14, but 17 if it is no next child"
 abbrev pub IsFault : List Event → ℕ → ℕ → Type 0
 IsFault es a n =
     ((n ≡ 17) × (IsNextChild (grown childOf setLimit es) a → ⊥))
@@ -83,7 +83,7 @@ pub record Replays : Type 0 where
   -- one address more: "otherwise 17"
   pub fault17 : (es : List Event) (a : ℕ) → a < 2 ^ 64
       → (next (known (nodesOf es)) a ≡ fault 17) ↔ (IsNextChild (grown childOf setLimit es) a → ⊥)
-  -- "a 513th node, the root counted, is 14"
+  -- "a [4,097th] node, the root counted, is 14"
   pub fault14 : (es : List Event) (a : ℕ) → a < 2 ^ 64
       → (next (known (nodesOf es)) a ≡ fault 14) ↔ (IsNextChild (grown childOf setLimit es) a × (mostNodes ≤ length (nodesOf es)))
   -- and no other number is given

@@ -63,7 +63,7 @@ pub data Fault (slots : List (List ℕ)) (n : ℕ) : Type 0 where
   noBlock : (before : List (List ℕ)) (slot : List ℕ) (rest : List (List ℕ)) (addresses nodes : List ℕ)
       → slots ≡ before ++ slot ∷ rest → Holds before addresses → IsReplayed addresses nodes → (EndsErased slot → ⊥)
       → ((more : List ℕ) → IsBlockOf more slot → ⊥) → n ≡ 17 → Fault slots n
-  -- "whose addresses each are the next child of a node already known .. otherwise 17"; "a 513th node .. is 14, but 17 if it is no next child"
+  -- "whose addresses each are the next child of a node already known .. otherwise 17"; "a [4,097th] node .. is 14, but 17 if it is no next child"
   wrongAddress : (before : List (List ℕ)) (slot : List ℕ) (rest : List (List ℕ)) (addresses more nodes : List ℕ)
       → slots ≡ before ++ slot ∷ rest → Holds before addresses → IsReplayed addresses nodes → IsBlockOf more slot
       → IsFirstFault (addresses ++ more) n → Fault slots n

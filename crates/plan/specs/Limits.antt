@@ -1,13 +1,13 @@
 -- How large a plan may be.
 use Prim.Native.Nat.{ℕ}
 
--- "Text over 4,096 bytes: 14."
+-- "a plan 32,768 bytes"
 abbrev pub mostBytes : ℕ
-mostBytes = 4096
+mostBytes = 32768
 
--- "Then over 512 nodes, the root counted: 14."
+-- "A plan .. may now have 4,096 nodes, the root counted"
 abbrev pub mostNodes : ℕ
-mostNodes = 512
+mostNodes = 4096
 
 -- "with at most 64 groups open at once"
 abbrev pub mostGroups : ℕ

@@ -1,5 +1,5 @@
--- Reading a plan into lent words. "Text over 4,096 bytes: 14. Then a text outside the grammar (a 65th open group counts): 13, with the place
--- .. Then over 512 nodes, the root counted: 14. Then an address too long: 3. Then no room: 10."
+-- Reading a plan into lent words. "Text over [32,768] bytes: 14. Then a text outside the grammar (a 65th open group counts): 13, with the place
+-- .. Then over [4,096] nodes, the root counted: 14. Then an address too long: 3. Then no room: 10."
 use Prim.Native.Nat.{ℕ, zero, suc}
 use mathlib.Core.List.{List, [], _∷_, _++_}
 use lib.ListN.{length, drop}

@@ -16,11 +16,11 @@ PlanOf text P = (plan : Items) × Spells text plan × P plan
 
 abbrev pub planOrder : List ℕ → List ℕ → Order
 planOrder text words =
-    -- "Text over 4,096 bytes: 14."
+    -- "Text over [32,768] bytes: 14."
     14 when mostBytes < length text
     -- "Then a text outside the grammar (a 65th open group counts): 13"
     otherwise 13 when (IsText text → ⊥)
-    -- "Then over 512 nodes, the root counted: 14."
+    -- "Then over [4,096] nodes, the root counted: 14."
     otherwise 14 when PlanOf text (λ plan. mostNodes < nodes plan)
     -- "Then an address too long: 3."
     otherwise 3 when PlanOf text SomeTooLong

@@ -12,7 +12,7 @@ ghost use Rattle.plan.specs.Reading.{inside};
 ghost use Rattle.plan.specs.Plan.{missing, planning};
 ghost use Rattle.plan.specs.Progress.{matched, PartRead, HallRead};
 
-// Refusals: "a text outside the grammar"; "text over 4,096 bytes" and "over 512 nodes"; "no room".
+// Refusals: "a text outside the grammar"; "text over [32,768] bytes" and "over [4,096] nodes"; "no room".
 pub const BAD_PLAN: u8 = 13;
 
 pub const TOO_MANY: u8 = 14;
@@ -20,9 +20,9 @@ pub const TOO_MANY: u8 = 14;
 pub const NO_ROOM: u8 = 10;
 
 // How large a plan may be: bytes of its text, nodes with the root, and groups open at once.
-pub const MOST_BYTES: usize = 4096;
+pub const MOST_BYTES: usize = 32768;
 
-pub const MOST_NODES: usize = 512;
+pub const MOST_NODES: usize = 4096;
 
 const MOST_GROUPS: u32 = 64;
 
