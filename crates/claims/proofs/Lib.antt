@@ -4,3 +4,4 @@ mod PlanLines
 mod JournalLines
 mod JournalCodeLines
 mod LimitLines
+mod LargerLines

@@ -9,3 +9,4 @@ pub mod Planned
 mod Reading
 pub mod Theorem
 pub mod ExampleLaws
+pub mod Largest

@@ -4,3 +4,4 @@ pub mod Requests
 pub mod Halls
 pub mod HallsRead
 pub mod Example
+pub mod Largest

@@ -35,7 +35,7 @@ areWords-behind (x ∷ xs) ys w = areWords-behind xs ys (w .1)
 -- ---- one request or setting, and a list of them
 
 -- a child given is a next child
-next-given : (t : Tree) (a : ℕ) (kind : Kind) (n : Node) → recordOf a t ≡ standing n → childOf n kind .refusal ≡ 0
+pub next-given : (t : Tree) (a : ℕ) (kind : Kind) (n : Node) → recordOf a t ≡ standing n → childOf n kind .refusal ≡ 0
     → IsNextChild t (childOf n kind .child .number)
 next-given t a kind n e z = record {
   node = n;

@@ -27,3 +27,4 @@ pub mod OneRule
 pub mod WrongWriters
 pub mod WrongRecoveries
 pub mod Theorem
+pub mod Full

@@ -40,7 +40,7 @@ record Onward (journal nodes : List ℕ) (blocks : ℕ) : Type 0 where
   replays : replayed journal ≡ known nodes
   room : writtenSlots (slotsOf journal) + blocks ≤ slotCount journal
 
-areWords-front : (xs ys : List ℕ) → AreWords (xs ++ ys) → AreWords xs
+pub areWords-front : (xs ys : List ℕ) → AreWords (xs ++ ys) → AreWords xs
 areWords-front [] ys w = tt
 areWords-front (x ∷ xs) ys w = (w .0, areWords-front xs ys (w .1))
 

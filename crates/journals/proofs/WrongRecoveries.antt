@@ -1,12 +1,13 @@
 -- Each wrong recovery is refuted by one journal: of one erased slot, of one torn slot, of an erased slot and a torn one behind it, or of no byte.
 -- The statements allow one recovery, and there it answers or leaves something else. The wrong record is refuted by the bare root's. Assumes nothing.
-use Prim.Native.Nat.{ℕ, _≤_}
+use Prim.Native.Nat.{ℕ, _≤_, _<_}
 use mathlib.Core.Path.{_≡_, refl, sym, ap, _∙_}
 use mathlib.Core.Bool.{Bool, true, false}
 use mathlib.Core.List.{List, [], _∷_}
 use native.Mathlib.Omega.{arith}
-use borrow.Author.Tests.{le-ltb}
+use borrow.Author.Tests.{ltb-true, ltb-false, lt-ltb, le-ltb}
 use lib.ListN.{length, getD, replicate, length-replicate}
+use lib.Dec.{ltb}
 use Rattle.address.specs.Bits.{root}
 use Rattle.address.specs.declared.Kind.the-variants.{Router}
 use Rattle.octets.specs.Octets.{AreOctets}
@@ -24,7 +25,7 @@ use Rattle.journals.specs.Slots.{IsLength}
 use Rattle.journals.specs.Refusals.{RecoverRefusals}
 use Rattle.journals.specs.RoundTrip.{joined}
 use Rattle.journals.specs.WrongRecoveries.{replaying, keptBehind, notCleared, keptAtFault, notZeroed, takingSlots, takingAll, tornSpoils}
-use Rattle.journals.specs.WrongRecoveries.{tornRefused, gapPassed, gapsAllowed, roomFirst, closedRecords, WrongRecoveriesExcluded}
+use Rattle.journals.specs.WrongRecoveries.{tornRefused, gapPassed, gapsAllowed, roomFirst, wanting, closedRecords, WrongRecoveriesExcluded}
 use Rattle.journals.proofs.Recovered.{limit-recovered}
 use Rattle.journals.proofs.SlotTests.{AreSlots, isErased-erased, isErased-other, spoilt-known, slotTaken-erased, slotTaken-gap}
 use Rattle.journals.proofs.SlotTests.{slotTaken-torn}
@@ -54,10 +55,10 @@ own-slots journal = taking-own false bare (slotsOf journal)
 
 -- words enough, and none of them zero
 abbrev ones : List ℕ
-ones = replicate 512 1
+ones = replicate mostNodes 1
 
 room : mostNodes ≤ length ones
-room = omega (arith, length-replicate {A = ℕ} 512 1)
+room = omega (arith, length-replicate {A = ℕ} mostNodes 1)
 
 -- past the first two refusals
 module _ (journal words : List ℕ) (h : IsLength (length journal)) (lent : mostNodes ≤ length words) where
@@ -163,6 +164,46 @@ roomFirst-refuted claim =
     let refusal : _≡_ {A = ℕ} 10 12 = ap (λ (e : RecoverEffect). e .answer .refusal) (one-recovery .only roomFirst claim [] [] tt) in
     omega (arith, refusal)
 
+-- ---- one erased slot, and as many words as one of two rules wants
+
+own-words : (journal words : List ℕ) → wanting mostNodes journal words ≡ recovering journal words
+unfolding wanting recovering
+own-words journal words = refl
+
+-- two such rules that answer alike: the first does not want fewer words than the second
+no-fewer-words : (most many : ℕ) → ((words : List ℕ) → wanting most one words ≡ wanting many one words) → many ≤ most
+unfolding wanting refuseRecovery restored
+no-fewer-words most many alike = go (ltb most many) refl
+  where
+    words : List ℕ
+    words = replicate most 0
+
+    lent : length words ≡ most
+    lent = length-replicate {A = ℕ} most 0
+
+    right : isLength (length one) ≡ true
+    right = isLength-right (length one) (isLength-erased 1 (omega arith) (omega arith))
+
+    refused : most < many → wanting many one words ≡ refuseRecovery 10 words
+    refused h = rw (right, lt-ltb (length words) many (omega (arith, lent))) refl
+
+    done : wanting most one words ≡ restored bare words
+    done = rw (right, le-ltb (length words) most (omega (arith, lent)), replayed-erased 1) refl
+
+    go : (b : Bool) → ltb most many ≡ b → many ≤ most
+    go false e = ltb-false most many e
+    go true e =
+        let same = sym done ∙ alike words ∙ refused (ltb-true most many e) in
+        let refusal : _≡_ {A = ℕ} 0 10 = ap (λ (e : RecoverEffect). e .answer .refusal) same in
+        absurd (omega (arith, refusal))
+
+only-these-words : (most : ℕ) → RecoverRefusals (wanting most) → most ≡ mostNodes
+only-these-words most claim =
+    omega (arith, no-fewer-words most mostNodes alike, no-fewer-words mostNodes most (λ words. sym (alike words)))
+  where
+    alike : (words : List ℕ) → wanting most one words ≡ wanting mostNodes one words
+    alike words = one-recovery .only (wanting most) claim one words (octets-erased 1) ∙ sym (own-words one words)
+
 -- ---- the bare root's record
 
 closedRecords-refuted : Records closedRecords → ⊥
@@ -180,10 +221,12 @@ pub wrong-recoveries-excluded : WrongRecoveriesExcluded
 wrong-recoveries-excluded = record {
   ownEnd = own-end;
   ownSlots = own-slots;
+  ownWords = own-words;
   leftBehind = notCleared-refuted;
   leftAtFault = notZeroed-refuted;
   tornNotSkipped = tornRefused-refuted;
   gapNotSeen = gapsAllowed-refuted;
   otherOrder = roomFirst-refuted;
+  otherWords = only-these-words;
   otherLimits = closedRecords-refuted;
 }

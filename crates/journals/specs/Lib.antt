@@ -9,3 +9,4 @@ pub mod RoundTrip
 pub mod OneRule
 pub mod WrongWriters
 pub mod WrongRecoveries
+pub mod Full

@@ -78,17 +78,26 @@ roomFirst journal words =
     else if not (isLength (length journal)) then refuseRecovery 12 words
     else restored (replayed journal) words
 
+-- ---- another number of words
+
+unfoldable pub wanting : ℕ → RecoverRule
+wanting most journal words =
+    if not (isLength (length journal)) then refuseRecovery 12 words
+    else if ltb (length words) most then refuseRecovery 10 words
+    else restored (replayed journal) words
+
 -- ---- another record
 
 -- with 0 and 0, as if no node might have a child
 unfoldable pub closedRecords : RecordRule
 closedRecords words a = record { node = withLimits 0 0 (recordIn words a .node); found = recordIn words a .found }
 
--- that none of them is allowed
+-- that none of them is allowed; of those that want some number of words, recovery itself alone
 pub record WrongRecoveriesExcluded : Type 0 where
   -- with recovery's own parts they are recovery
   pub ownEnd : (journal words : List ℕ) → replaying replayed restored journal words ≡ recovering journal words
   pub ownSlots : (journal : List ℕ) → takingAll slotTaken journal ≡ replayed journal
+  pub ownWords : (journal words : List ℕ) → wanting mostNodes journal words ≡ recovering journal words
   -- "then zeros to the list's end"
   pub leftBehind : RecoverRefusals notCleared → ⊥
   -- "Recovery's 14 and 17 leave the list all zeros"
@@ -97,7 +106,9 @@ pub record WrongRecoveriesExcluded : Type 0 where
   pub tornNotSkipped : RecoverRefusals tornRefused → ⊥
   -- "Any slot that isn't erased, torn or not, standing after an erased one is 17."
   pub gapNotSeen : RecoverRefusals gapsAllowed → ⊥
-  -- "Recovery first checks the length (12), then that at least 512 words are lent (10)"
+  -- "Recovery first checks the length (12), then that at least [4,096] words are lent (10)"
   pub otherOrder : RecoverRefusals roomFirst → ⊥
+  -- "Recovery wants 4,096 words lent."
+  pub otherWords : (most : ℕ) → RecoverRefusals (wanting most) → most ≡ mostNodes
   -- "recovered nodes have 64 and 64"
   pub otherLimits : Records closedRecords → ⊥

@@ -18,4 +18,5 @@ mod Parts
 mod ItemLaws
 mod HallLaws
 mod PlanLaws
+pub mod Largest
 pub mod Promises

@@ -1,13 +1,14 @@
 -- Each wrong rule is refuted by its answer to one text: what the right rule comes to there is all that the statement allows. Where the text is
 -- long, laws say what it comes to.
-use Prim.Native.Nat.{ℕ, zero, suc, _+_, _<_}
-use mathlib.Core.Path.{_≡_, refl, sym, ap, _∙_}
+use Prim.Native.Nat.{ℕ, zero, suc, _+_, _≤_, _<_}
+use mathlib.Core.Path.{_≡_, refl, sym, ap, subst, _∙_}
 use mathlib.Core.Bool.{Bool, true, false}
 use mathlib.Core.Logic.{inl, inr, ⊎-elim}
 use mathlib.Core.List.{List, [], _∷_, _++_, map, List·Memᴰ, List·Memᴰ·head as first, List·Memᴰ·tail as later}
 use native.Mathlib.Omega.{arith}
 use lib.ListN.{length, drop, replicate, getD, length-replicate}
 use lib.Dec.{ltb}
+use borrow.Author.Tests.{ltb-true, ltb-false, lt-ltb, le-ltb}
 use Rattle.address.specs.Choice.{if_then_else_}
 use Rattle.address.specs.Bits.{lastBit, bitsIn, bits, digit, numberFrom, number, root}
 use Rattle.address.specs.Steps.{lastOf, stepBits}
@@ -21,12 +22,14 @@ use Rattle.node.proofs.Children.{count-raised, count-le}
 use Rattle.node.proofs.RefusalLaws.{child-refusals}
 use Rattle.node.proofs.GivenChildren.{gives-children}
 use Rattle.plan.specs.Limits.{mostBytes, mostNodes}
-use Rattle.plan.specs.Grammar.{letterR, letterH, opening, closing, Items, none, host, router, itemsText, planText, groupsOpen, Spells, IsText}
-use Rattle.plan.specs.Hall.{answers, items, nodes, refusalOf, SomeTooLong}
+use Rattle.plan.specs.Grammar.{letterR, letterH, opening, closing, Items, none, router, itemsText, planText, groupsOpen, IsText}
+use Rattle.plan.specs.Hall.{answers, hall, items, nodes, refusalOf, SomeTooLong}
 use Rattle.plan.specs.Reading.{Expected, start, Move, to, fault, moveItem, move, Reading, whole, faultAt, behind, ended, readFrom, reading}
 use Rattle.plan.specs.Plan.{PlanEffect, refusePlan, missing, listed, judged, planning}
 use Rattle.plan.specs.Refusals.{PlanRefusals}
+use Rattle.plan.specs.Largest.{hosts}
 use Rattle.plan.specs.WrongRules.{judgedBy, planningBy, rightParts, refusesAll, grammarFirst, letterCount, nodesFirst, roomFirst}
+use Rattle.plan.specs.WrongRules.{listing, listedWithin, planningWithin}
 use Rattle.plan.specs.WrongRules.{placeFromOne, placeBeside, writesWithoutRoom, writesRoot, rootUncounted}
 use Rattle.plan.specs.WrongRules.{readFromBy, moving, moveUnlimited, unlimited, withoutAddress, closingAddress, moveLate, routersLate}
 use Rattle.plan.proofs.MoveLaws.{readFrom-fault}
@@ -36,6 +39,7 @@ use Rattle.plan.proofs.Wholly.{reading-spells}
 use Rattle.plan.proofs.Exact.{not-both, faultAt-stops}
 use Rattle.plan.proofs.Inner.{Inner, inner-root, inner-refusal, inner-next}
 use Rattle.plan.proofs.RefusalLaws.{tooLong}
+use Rattle.plan.proofs.Largest.{hosts-spelled}
 use Rattle.plan.proofs.OneRule.{only-end, one-rule}
 
 -- ---- the wrong rules are made as the right one is
@@ -149,10 +153,6 @@ nodesFirst-refuted claim =
 
 -- ---- so many hosts
 
-hosts : ℕ → Items
-hosts zero = none
-hosts (suc k) = host (hosts k)
-
 -- among more hosts than there is room for one is refused
 hosts-refused : (k : ℕ) (n : Node) → Inner n → room n < count Host n + k → List·Memᴰ 3 (map refusalOf (answers n (hosts k)))
 unfolding answers hosts
@@ -172,10 +172,6 @@ hosts-refused (suc k) n inner h =
 abbrev manyHosts : List ℕ
 manyHosts = planText (hosts 64)
 
-hosts-spelled : Spells manyHosts (hosts 64)
-unfolding hosts groupsOpen
-hosts-spelled = record { spelled = refl; within = omega arith }
-
 hosts-too-long : SomeTooLong (hosts 64)
 unfolding fresh count bitLength bits bitsIn lastBit
 hosts-too-long = hosts-refused 64 (fresh root) inner-root (omega arith)
@@ -183,13 +179,130 @@ hosts-too-long = hosts-refused 64 (fresh root) inner-root (omega arith)
 -- 64 hosts of the root and no words: the last address is too long
 roomFirst-hosts : roomFirst manyHosts [] ≡ refusePlan 10 0 []
 unfolding roomFirst planningBy judgedBy hosts planText itemsText items nodes
-roomFirst-hosts = rw (reading-spells manyHosts (hosts 64) hosts-spelled, length-hall (hosts 64))
+roomFirst-hosts = rw (reading-spells manyHosts (hosts 64) (hosts-spelled 64), length-hall (hosts 64))
 
 pub roomFirst-refuted : PlanRefusals roomFirst → ⊥
 unfolding refusePlan hosts planText itemsText items nodes
 roomFirst-refuted claim =
-    let right = only-end roomFirst claim manyHosts [] (tooLong (omega arith) (hosts 64) hosts-spelled (omega arith) hosts-too-long) in
+    let right = only-end roomFirst claim manyHosts [] (tooLong (omega arith) (hosts 64) (hosts-spelled 64) (omega arith) hosts-too-long) in
     omega (arith, ap (λ (e : PlanEffect). e .answer .refusal) (sym roomFirst-hosts ∙ right))
+
+-- ---- other limits
+
+nodes-hosts : (k : ℕ) → nodes (hosts k) ≡ suc k
+unfolding nodes items hosts
+nodes-hosts zero = refl
+nodes-hosts (suc k) = ap suc (nodes-hosts k)
+
+length-hosts : (k : ℕ) → length (planText (hosts k)) ≡ k + 3
+unfolding planText itemsText hosts
+length-hosts zero = refl
+length-hosts (suc k) = omega (arith, length-hosts k)
+
+-- with the right numbers it is the right rule
+pub within-right : (text words : List ℕ) → planningWithin mostBytes mostNodes text words ≡ planning text words
+unfolding planningWithin judgedBy judged listedWithin listed planning
+within-right text words = go (reading text)
+  where
+    go : (r : Reading)
+        → (if ltb mostBytes (length text) then refusePlan 14 0 words else judgedBy (listing (listedWithin mostNodes)) r words)
+        ≡ (if ltb mostBytes (length text) then refusePlan 14 0 words else judged r words)
+    go (whole given) = refl
+    go (faultAt place) = refl
+
+module _ (bytes most : ℕ) where
+  within-over : (text : List ℕ) → bytes < length text → planningWithin bytes most text [] ≡ refusePlan 14 0 []
+  unfolding planningWithin
+  within-over text h = rw (lt-ltb bytes (length text) h) refl
+
+  within-fault : (s : List ℕ) → length s < bytes → planningWithin bytes most (letterH ∷ s) [] ≡ refusePlan 13 0 []
+  unfolding planningWithin judgedBy reading move
+  within-fault s h = rw (le-ltb bytes (suc (length s)) h, readFrom-fault 0 start letterH s refl) refl
+
+  module _ (k : ℕ) (short : k + 3 ≤ bytes) where
+    within-hosts : planningWithin bytes most (planText (hosts k)) [] ≡ listedWithin most (hall (hosts k)) []
+    unfolding planningWithin judgedBy
+    within-hosts =
+        rw (le-ltb bytes (length (planText (hosts k))) (omega (arith, length-hosts k)), reading-spells (planText (hosts k)) (hosts k) (hosts-spelled k))
+        refl
+
+    counted : length (hall (hosts k)) ≡ suc k
+    counted = length-hall (hosts k) ∙ nodes-hosts k
+
+    within-many : most ≤ k → planningWithin bytes most (planText (hosts k)) [] ≡ refusePlan 14 0 []
+    unfolding listedWithin
+    within-many many = within-hosts ∙ rw (counted, lt-ltb most (suc k) (omega (arith, many))) refl
+
+    within-few : k < most → planningWithin bytes most (planText (hosts k)) [] ≡ refusePlan 14 0 [] → ⊥
+    unfolding listedWithin refusePlan
+    within-few few e =
+        go (ltb 0 (missing (hall (hosts k)))) (ap (λ (p : PlanEffect). p .answer .refusal) (sym (within-hosts ∙ listed-few) ∙ e))
+      where
+        listed-few : listedWithin most (hall (hosts k)) [] ≡ (if ltb 0 (missing (hall (hosts k))) then refusePlan 3 0 [] else refusePlan 10 0 [])
+        listed-few = rw (counted, le-ltb most (suc k) few, lt-ltb 0 (suc k) (omega arith)) refl
+
+        go : (l : Bool) → (if l then refusePlan 3 0 [] else refusePlan 10 0 []) .answer .refusal ≡ 14 → ⊥
+        go true z = omega (arith, z)
+        go false z = omega (arith, z)
+
+-- two such rules that answer alike
+abbrev Alike : ℕ → ℕ → ℕ → ℕ → Type 0
+Alike bytes most others many = (text : List ℕ) → planningWithin bytes most text [] ≡ planningWithin others many text []
+
+-- the first does not take fewer bytes than the second: as many "H" and one more would be a fault to the second alone
+no-fewer-bytes : (bytes most others many : ℕ) → Alike bytes most others many → others ≤ bytes
+unfolding refusePlan
+no-fewer-bytes bytes most others many alike = go (ltb bytes others) refl
+  where
+    s : List ℕ
+    s = replicate bytes letterH
+
+    long : length s ≡ bytes
+    long = length-replicate bytes letterH
+
+    go : (b : Bool) → ltb bytes others ≡ b → others ≤ bytes
+    go false e = ltb-false bytes others e
+    go true e =
+        let over = within-over bytes most (letterH ∷ s) (omega (arith, long)) in
+        let fault = within-fault others many s (omega (arith, long, ltb-true bytes others e)) in
+        absurd (omega (arith, ap (λ (p : PlanEffect). p .answer .refusal) (sym over ∙ alike (letterH ∷ s) ∙ fault)))
+
+-- nor fewer nodes: the root with as many hosts would be too much to the first alone
+no-fewer-nodes : (bytes most many : ℕ) → most + 3 ≤ bytes → Alike bytes most bytes many → many ≤ most
+no-fewer-nodes bytes most many short alike = go (ltb most many) refl
+  where
+    over : planningWithin bytes many (planText (hosts most)) [] ≡ refusePlan 14 0 []
+    over = sym (alike (planText (hosts most))) ∙ within-many bytes most most short (omega arith)
+
+    go : (b : Bool) → ltb most many ≡ b → many ≤ most
+    go false e = ltb-false most many e
+    go true e = absurd (within-few bytes many most short (ltb-true most many e) over)
+
+same-nodes : (most : ℕ) → Alike mostBytes most mostBytes mostNodes → most ≡ mostNodes
+same-nodes most alike = go (ltb mostNodes most) refl
+  where
+    few : most ≤ mostNodes → most ≡ mostNodes
+    few h = omega (arith, h, no-fewer-nodes mostBytes most mostNodes (omega (arith, h)) alike)
+
+    go : (t : Bool) → ltb mostNodes most ≡ t → most ≡ mostNodes
+    go true e = few (no-fewer-nodes mostBytes mostNodes most (omega arith) (λ text. sym (alike text)))
+    go false e = few (ltb-false mostNodes most e)
+
+-- "4,096 nodes, the root counted, and a plan 32,768 bytes": the statement allows no other numbers
+pub only-these-limits : (bytes most : ℕ) → PlanRefusals (planningWithin bytes most) → (bytes ≡ mostBytes) × (most ≡ mostNodes)
+only-these-limits bytes most claim =
+    (same-bytes, same-nodes most (subst (λ (b : ℕ). Alike b most mostBytes mostNodes) same-bytes alike))
+  where
+    alike : Alike bytes most mostBytes mostNodes
+    alike text = one-rule (planningWithin bytes most) claim text [] ∙ sym (within-right text [])
+
+    same-bytes : bytes ≡ mostBytes
+    same-bytes =
+        omega (
+          arith,
+          no-fewer-bytes bytes most mostBytes mostNodes alike,
+          no-fewer-bytes mostBytes mostNodes bytes most (λ text. sym (alike text)),
+        )
 
 -- ---- groups in groups
 

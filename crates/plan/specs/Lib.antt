@@ -8,3 +8,4 @@ pub mod Progress
 pub mod Refusals
 pub mod Exactly
 pub mod WrongRules
+pub mod Largest

@@ -1,9 +1,9 @@
--- Wrong rules for reading a plan, which demand 1 must exclude: impostors, slips in the order of the refusals and in what stands beside them, and
--- slips in the reading. Each goes by the right rule with one part exchanged.
+-- Wrong rules for reading a plan, which demand 1 must exclude: impostors, slips in the order of the refusals and in what stands beside them, other
+-- limits, and slips in the reading. Each but the impostor goes by the right rule with one part exchanged.
 use Prim.Native.Nat.{ℕ, suc, _-_}
 use mathlib.Core.Bool.{not, _&&_, _||_}
-use mathlib.Core.List.{List, [], _∷_}
-use lib.ListN.{length, take, set}
+use mathlib.Core.List.{List, [], _∷_, _++_}
+use lib.ListN.{length, take, drop, set}
 use lib.Dec.{eqb, ltb}
 use Rattle.address.specs.Choice.{if_then_else_}
 use Rattle.address.specs.Bits.{root}
@@ -14,7 +14,7 @@ use Rattle.plan.specs.Limits.{mostBytes, mostNodes}
 use Rattle.plan.specs.Grammar.{letterR, letterH, closing}
 use Rattle.plan.specs.Hall.{childIn}
 use Rattle.plan.specs.Reading.{Expected, start, group, inside, Move, to, fault, moveItem, move, Reading, whole, faultAt, behind, ended, reading}
-use Rattle.plan.specs.Plan.{PlanEffect, refusePlan, listed, judged, planning}
+use Rattle.plan.specs.Plan.{PlanEffect, refusePlan, missing, listed, judged, planning}
 
 -- a rule for reading a plan
 abbrev pub PlanRule : Type 0
@@ -65,6 +65,21 @@ nodesFirst text words = if ltb mostNodes (letterCount text) then refusePlan 14 0
 unfoldable pub roomFirst : PlanRule
 roomFirst = planningBy (listing (λ given words.
     if ltb (length words) (length given) && not (ltb mostNodes (length given)) then refusePlan 10 0 words else listed given words))
+
+-- ---- the limits
+
+-- `listed` and `planning`, with any numbers in the place of the limits on bytes and nodes
+unfoldable pub listedWithin : ℕ → List ℕ → List ℕ → PlanEffect
+listedWithin most given words =
+    if ltb most (length given) then refusePlan 14 0 words
+    else if ltb 0 (missing given) then refusePlan 3 0 words
+    else if ltb (length words) (length given) then refusePlan 10 0 words
+    else record { answer = record { refusal = 0; nodes = length given; place = 0 }; words = given ++ drop (length given) words }
+
+unfoldable pub planningWithin : ℕ → ℕ → PlanRule
+planningWithin bytes most text words =
+    if ltb bytes (length text) then refusePlan 14 0 words
+    else judgedBy (listing (listedWithin most)) (reading text) words
 
 -- ---- what stands beside
 

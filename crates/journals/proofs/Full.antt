@@ -1,0 +1,229 @@
+-- The addresses of a hall, cut into blocks of 63, go into 65 slots; behind as many nodes as are allowed a next child is 14. Assumes nothing.
+use Prim.Native.Nat.{ℕ, zero, suc, _*_, _^_, _≤_, _<_}
+use mathlib.Core.Path.{_≡_, refl, sym, ap, subst, _∙_}
+use mathlib.Core.List.{List, [], _∷_, _++_, map}
+use mathlib.Core.Bool.{Bool, true, false, not, true≢false}
+use mathlib.Core.Logic.{inl, inr}
+use native.Mathlib.Omega.{arith}
+use lib.Dec.{ltb}
+use borrow.Author.Tests.{ltb-true, ltb-false, le-ltb}
+use lib.ListN.{length, take, drop, replicate, length-append, length-drop, length-map, take-append-drop}
+use Rattle.node.specs.Node.{childOf, setLimit}
+use Rattle.address.specs.Bits.{root}
+use Rattle.address.specs.Choice.{if_then_else_}
+use Rattle.address.specs.Order.{First}
+use Rattle.address.proofs.OrderLaws.{given-exactly}
+use Rattle.octets.specs.Octets.{AreOctets}
+use Rattle.tree.specs.Tree.{Tree, Record, standing, absent, recordOf, addresses, request, Event, asking, setting, Reply, replied, givenBy, happen, grown, givenIn}
+use Rattle.tree.proofs.Runs.{grown-snoc, replies-standing, replies-absent, set-replies, set-replies-nobody}
+use Rattle.tree.proofs.Given.{addresses-happen, addresses-grown}
+use Rattle.tree.proofs.Growth.{sound-grown}
+use Rattle.block.specs.Block.{block}
+use Rattle.block.specs.Blocks.{AreWords}
+use Rattle.block.proofs.Cases.{isCount-true}
+use Rattle.block.proofs.Theorem.{blocks}
+use Rattle.journal.specs.Limits.{mostNodes}
+use Rattle.journal.specs.Replay.{Replay, fault, next, follow, bare}
+use Rattle.journal.specs.Slots.{replay, replayed}
+use Rattle.journal.specs.Recovery.{isLength, unfit, refuseRecovery, restored, recovering}
+use Rattle.journal.specs.Writing.{refusePlacing, judged, judging, writing}
+use Rattle.journal.proofs.ReplayLaws.{follow-append}
+use Rattle.journals.specs.Replays.{IsNextChild, nodesOf}
+use Rattle.journals.specs.Slots.{IsLength, Holds, none as Holds·none, block as Holds·block}
+use Rattle.journals.specs.PowerCuts.{RecoversTo}
+use Rattle.journals.specs.RoundTrip.{joined, AreBlocks, AllWritten}
+use Rattle.journals.specs.Full.{unfitOrder, FullJournals}
+use Rattle.journals.proofs.NextChild.{address-next}
+use Rattle.journals.proofs.GivenReplayed.{areWords-behind, next-given, follow-grown}
+use Rattle.journals.proofs.SlotTests.{AreSlots, block-isBlockOf}
+use Rattle.journals.proofs.SlotReplays.{areWords-append, replay-holds}
+use Rattle.journals.proofs.Recovering.{known-recovers}
+use Rattle.journals.proofs.AfterWrites.{put-accepted, octets-put}
+use Rattle.journals.proofs.Lengths.{isLength-right, right-isLength, length-joined, slotsOf-joined, octets-joined}
+use Rattle.journals.proofs.Erased.{erasedJournal, octets-erased}
+use Rattle.journals.proofs.RoundTrips.{areWords-front, nodesOf-words, round-trip}
+use Rattle.journals.proofs.Theorem.{replays}
+
+-- ---- into blocks of 63
+
+cut : ℕ → List ℕ → List (List ℕ)
+cut zero xs = []
+cut (suc k) [] = []
+cut (suc k) (x ∷ xs) = take 63 (x ∷ xs) ∷ cut k (drop 63 (x ∷ xs))
+
+length-cut : (k : ℕ) (xs : List ℕ) → length (cut k xs) ≤ k
+unfolding cut
+length-cut zero xs = omega arith
+length-cut (suc k) [] = omega arith
+length-cut (suc k) (x ∷ xs) = omega (arith, length-cut k (drop 63 (x ∷ xs)))
+
+take-most : (k : ℕ) (xs : List ℕ) → length (take k xs) ≤ k
+take-most zero xs = omega arith
+take-most (suc k) [] = omega arith
+take-most (suc k) (x ∷ xs) = omega (arith, take-most k xs)
+
+blocks-cut : (k : ℕ) (xs : List ℕ) → AreBlocks (cut k xs)
+unfolding cut
+blocks-cut zero xs = tt
+blocks-cut (suc k) [] = tt
+blocks-cut (suc k) (x ∷ xs) = ((omega arith, omega (arith, take-most 63 (x ∷ xs))), blocks-cut k (drop 63 (x ∷ xs)))
+
+joined-cut : (k : ℕ) (xs : List ℕ) → length xs ≤ 63 * k → xs ≡ joined (cut k xs)
+unfolding cut joined
+joined-cut zero [] h = refl
+joined-cut zero (x ∷ xs) h = absurd (omega arith)
+joined-cut (suc k) [] h = refl
+joined-cut (suc k) (x ∷ xs) h =
+    sym (take-append-drop 63 (x ∷ xs))
+    ∙ ap (λ (l : List ℕ). take 63 (x ∷ xs) ++ l) (joined-cut k (drop 63 (x ∷ xs)) (omega (arith, h, length-drop 63 (x ∷ xs))))
+
+-- ---- the journal at the end
+
+at-end : (P : List ℕ → Type 0) (blocks : List (List ℕ)) (journal : List ℕ) → AreOctets journal → AllWritten writing journal blocks P
+    → (after : List ℕ) × AreOctets after × P after
+at-end P [] journal all w = (journal, all, w)
+at-end P (xs ∷ blocks) journal all w =
+    let (nodes, put) = put-accepted journal xs all (w .0) in
+    at-end P blocks (writing journal xs .journal) (subst AreOctets (sym (put .wrote)) (octets-put all put)) (w .1)
+
+every-hall : (es : List Event) → length (nodesOf es) ≤ mostNodes → (journal : List ℕ) × AreOctets journal × RecoversTo recovering journal (nodesOf es)
+every-hall es few =
+    let given = givenIn childOf setLimit es in
+    at-end (λ after. RecoversTo recovering after (nodesOf es)) (cut 65 given) (erasedJournal 65) (octets-erased 65)
+    (round-trip .whole 65 es (cut 65 given) (omega arith) (omega arith) (joined-cut 65 given (omega (arith, few, ap length (addresses-grown es)))) (blocks-cut 65 given) (length-cut 65 given) few)
+
+one-more : (journal : List ℕ) (es : List Event) (a : ℕ) → RecoversTo recovering journal (nodesOf es) → mostNodes ≤ length (nodesOf es)
+    → IsNextChild (grown childOf setLimit es) a → writing journal (a ∷ []) .answer .refusal ≡ 14
+unfolding writing judging judged refusePlacing follow
+one-more journal es a r full child =
+    let (isLong, e) = known-recovers journal (nodesOf es) r in
+    let fits = address-next (grown childOf setLimit es) (sound-grown es) child .fits in
+    let faulty = replays .fault14 es a fits .1 (child, full) in
+    rw (isLength-right (length journal) isLong, isCount-true 1 (omega arith, omega arith), e, faulty) refl
+
+-- ---- a journal of any addresses
+
+block-slots : (bs : List (List ℕ)) → AreBlocks bs → AreSlots (map block bs)
+block-slots [] counts = tt
+block-slots (xs ∷ bs) counts =
+    let whole = blocks .whole xs (counts .0) in (record { size = whole .0; octets = whole .3 }, block-slots bs (counts .1))
+
+block-holds : (bs : List (List ℕ)) → AreBlocks bs → AreWords (joined bs) → Holds (map block bs) (joined bs)
+unfolding joined
+block-holds [] counts words = Holds·none
+block-holds (xs ∷ bs) counts words =
+    Holds·block (block-isBlockOf xs (areWords-front xs (joined bs) words) (counts .0)) (block-holds bs (counts .1) (areWords-behind xs (joined bs) words))
+
+cut-some : (k : ℕ) (xs : List ℕ) → 1 ≤ length xs → 1 ≤ length (cut (suc k) xs)
+unfolding cut
+cut-some k [] h = absurd (omega arith)
+cut-some k (x ∷ xs) h = omega arith
+
+module _ (es : List Event) (a : ℕ) (full : length (nodesOf es) ≡ mostNodes) (child : IsNextChild (grown childOf setLimit es) a) where
+  abbrev all : List ℕ
+  all = givenIn childOf setLimit es ++ (a ∷ [])
+
+  abbrev slots : List (List ℕ)
+  slots = map block (cut 66 all)
+
+  fits-child : a < 2 ^ 64
+  fits-child = address-next (grown childOf setLimit es) (sound-grown es) child .fits
+
+  all-length : length all ≡ mostNodes
+  all-length = omega (arith, full, ap length (addresses-grown es), length-append (givenIn childOf setLimit es) (a ∷ []))
+
+  all-cut : all ≡ joined (cut 66 all)
+  all-cut = joined-cut 66 all (omega (arith, all-length))
+
+  all-words : AreWords all
+  all-words =
+      areWords-append (givenIn childOf setLimit es) (a ∷ [])
+      (areWords-behind (root ∷ []) (givenIn childOf setLimit es) (subst AreWords (addresses-grown es) (nodesOf-words es))) (fits-child, tt)
+
+  follows-all : follow bare all ≡ fault 14
+  unfolding follow
+  follows-all =
+      follow-append bare (givenIn childOf setLimit es) (a ∷ [])
+      ∙ ap (λ (r : Replay). next r a) (follow-grown es (omega (arith, full)))
+      ∙ replays .fault14 es a fits-child .1 (child, omega (arith, full))
+
+  are-slots : AreSlots slots
+  are-slots = block-slots (cut 66 all) (blocks-cut 66 all)
+
+  replays-all : replayed (joined slots) ≡ fault 14
+  unfolding replayed
+  replays-all =
+      ap (replay false bare) (slotsOf-joined slots are-slots)
+      ∙ replay-holds (block-holds (cut 66 all) (blocks-cut 66 all) (subst AreWords all-cut all-words)) are-slots bare
+      ∙ ap (follow bare) (sym all-cut)
+      ∙ follows-all
+
+  is-long : IsLength (length (joined slots))
+  is-long = record {
+    slots = length slots;
+    some = omega (arith, length-map (cut 66 all) block, cut-some 65 all (omega (arith, all-length)));
+    few = omega (arith, length-map (cut 66 all) block, length-cut 66 all);
+    whole = length-joined slots are-slots;
+  }
+
+  one-too-many : (journal : List ℕ) × AreOctets journal
+      × ((words : List ℕ) → mostNodes ≤ length words → recovering journal words ≡ refuseRecovery 14 (replicate (length words) 0))
+  unfolding recovering restored
+  one-too-many = (
+    joined slots,
+    octets-joined slots are-slots,
+    λ words room. rw (isLength-right (length (joined slots)) is-long, le-ltb (length words) mostNodes room, replays-all) refl,
+  )
+
+-- ---- what one more event gives
+
+module _ (t : Tree) where
+  abbrev Gives : List Reply → Type 0
+  Gives ls = 0 < length (givenBy ls) → (a : ℕ) × IsNextChild t a
+
+  gives-replied : (a n : ℕ) → (n ≡ 0 → IsNextChild t a) → Gives (replied n a ∷ [])
+  unfolding givenBy
+  gives-replied a zero c h = (a, c refl)
+  gives-replied a (suc n) c h = absurd (omega arith)
+
+  gives-happen : (e : Event) → Gives (happen childOf setLimit t e .replies)
+  gives-happen (asking (request a kind)) = go (recordOf a t) refl
+    where
+      go : (x : Record) → recordOf a t ≡ x → Gives (happen childOf setLimit t (asking (request a kind)) .replies)
+      go (standing n) e = unfold happen in
+          subst Gives (sym (replies-standing childOf t a kind n e))
+          (gives-replied (childOf n kind .child .number) (childOf n kind .refusal) (next-given t a kind n e))
+      go absent e = unfold happen givenBy in subst Gives (sym (replies-absent childOf t a kind e)) (λ h. absurd (omega arith))
+  gives-happen (setting a kind k) = go (recordOf a t) refl
+    where
+      go : (x : Record) → recordOf a t ≡ x → Gives (happen childOf setLimit t (setting a kind k) .replies)
+      go (standing n) e = unfold givenBy in subst Gives (sym (set-replies childOf setLimit t a kind k n e)) (λ h. absurd (omega arith))
+      go absent e = unfold givenBy in subst Gives (sym (set-replies-nobody childOf setLimit t a kind k e)) (λ h. absurd (omega arith))
+
+next-one : (es : List Event) (e : Event) → length (nodesOf es) < length (nodesOf (es ++ (e ∷ []))) → (a : ℕ) × IsNextChild (grown childOf setLimit es) a
+next-one es e more =
+    let t = grown childOf setLimit es in
+    let after = ap (λ (t : Tree). length (addresses t)) (grown-snoc childOf setLimit es e) in
+    gives-happen t e
+    (omega (arith, more, after, ap length (addresses-happen t e), length-append (addresses t) (givenBy (happen childOf setLimit t e .replies))))
+
+-- ---- before the journal is looked into
+
+unfit-first : (bytes words : ℕ) → First (unfitOrder bytes words) (unfit bytes words)
+unfolding unfit
+unfit-first bytes words = go (isLength bytes) refl (ltb words mostNodes) refl
+  where
+    go : (l : Bool) → isLength bytes ≡ l → (s : Bool) → ltb words mostNodes ≡ s
+        → First (unfitOrder bytes words) (if not l then 12 else if s then 10 else 0)
+    go false l s e = inl (λ h. true≢false (sym (isLength-right bytes h) ∙ l), refl)
+    go true l true e = inr (λ n. n (right-isLength bytes l), inl (ltb-true words mostNodes e, refl))
+    go true l false e = inr (λ n. n (right-isLength bytes l), inr (λ few. omega (arith, few, ltb-false words mostNodes e), refl))
+
+pub full-journals : FullJournals
+full-journals = record {
+  unfitExactly = λ bytes words. given-exactly (unfitOrder bytes words) (unfit-first bytes words);
+  everyHall = every-hall;
+  oneMore = one-more;
+  oneTooMany = one-too-many;
+  nextOne = next-one;
+}

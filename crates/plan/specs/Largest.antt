@@ -1,0 +1,46 @@
+-- A plan of as many nodes as are allowed: "A plan .. may now have 4,096 nodes, the root counted".
+use Prim.Native.Nat.{ℕ, zero, suc, _*_, _≤_, _<_}
+use mathlib.Core.Path.{_≡_}
+use mathlib.Core.List.{List, _++_}
+use lib.ListN.{length, drop}
+use Rattle.plan.specs.Limits.{mostNodes}
+use Rattle.plan.specs.Grammar.{Items, none, host, router, planText, Spells}
+use Rattle.plan.specs.Hall.{hall, nodes, SomeTooLong}
+use Rattle.plan.specs.Plan.{refusePlan, planning}
+
+-- so many hosts; and so many routers with the same items in each one's group, before others
+unfoldable pub hosts : ℕ → Items
+hosts zero = none
+hosts (suc k) = host (hosts k)
+
+unfoldable pub routers : ℕ → Items → Items → Items
+routers zero group behind = behind
+routers (suc k) group behind = router group (routers k group behind)
+
+-- 15 routers of the root, 16 routers of each, 16 hosts of each of these: 1 + 15 * (1 + 16 * (1 + 16)) nodes; and behind them other items
+unfoldable pub largestWith : Items → Items
+largestWith behind = routers 15 (routers 16 (hosts 16) none) behind
+
+abbrev pub largest : Items
+largest = largestWith none
+
+-- and with a host of the root behind them
+abbrev pub tooLarge : Items
+tooLarge = largestWith (host none)
+
+pub record LargestPlan : Type 0 where
+  pub spelled : Spells (planText largest) largest
+  pub counted : nodes largest ≡ mostNodes
+  pub noneTooLong : SomeTooLong largest → ⊥
+  -- it is read where there is a word for each node, and 10 where there are fewer
+  pub read : (words : List ℕ) → mostNodes ≤ length words
+      → planning (planText largest) words
+      ≡ record { answer = record { refusal = 0; nodes = mostNodes; place = 0 }; words = hall largest ++ drop mostNodes words }
+  pub noRoom : (words : List ℕ) → length words < mostNodes → planning (planText largest) words ≡ refusePlan 10 0 words
+  -- with a host more it has too many nodes, and 14 is all that speaks against it
+  pub oneMore : (words : List ℕ) → planning (planText tooLarge) words ≡ refusePlan 14 0 words
+  pub moreSpelled : Spells (planText tooLarge) tooLarge
+  pub moreCounted : nodes tooLarge ≡ suc mostNodes
+  pub moreTooLong : SomeTooLong tooLarge → ⊥
+  -- and no text of the grammar is longer than three bytes for each of its nodes
+  pub bytes : (plan : Items) → length (planText plan) ≤ 3 * nodes plan
