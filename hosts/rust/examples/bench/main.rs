@@ -1,14 +1,16 @@
 //! Times the proved functions beside the same functions written in Rust by hand (`simple.rs`), and the next hop beside a hash map and a
-//! sorted table of 4,096 nodes. One process, the same inputs for both sides; what both answer is compared first.
+//! sorted table of 4,096 nodes; then plans, recovery, writing and records in halls of four sizes (`growth.rs`). One process, the same inputs for
+//! both sides; what both answer is compared first.
 //!
 //! Each row is the least of many rounds over the inputs, the two sides taking turns, in nanoseconds for one input. `called` is the Rust
 //! version behind a call that is not inlined, as every call of the archive is; `inlined` is the Rust version in the loop itself.
 //!
 //! Run it by `cargo run --release --offline --example bench`. With a name (`longest run`, `mixed`) it goes through these inputs once by each
 //! side and times nothing: examples/bench/count has callgrind count what that takes.
+mod growth;
 mod simple;
 
-use pasa::sys::{self, Block, Child, Hop, Limited, Listed, Node, Plan, Read, Recovered, Written};
+use pasa::sys::{self, Block, Child, Hop, Limited, Listed, Node, Plan, Read, Record, Recovered, Written};
 use pasa::{Address, BLOCK_MOST, NODES, PLAN_NODES, SLOT, SLOTS};
 use std::collections::HashMap;
 use std::env;
@@ -18,6 +20,8 @@ use std::time::Instant;
 /// So many that the processor cannot learn the branches of one round by heart.
 const INPUTS: usize = 65_536;
 const HALL: usize = 4096;
+/// The hall of a plan or a journal, where it is not said to be another.
+const SMALL: usize = 512;
 /// Each plan is long, so fewer are enough.
 const PLANS: usize = 256;
 /// And of journals, each of which is longer still.
@@ -103,8 +107,18 @@ fn called_recover(journal: &[u8], words: &mut [u64]) -> Recovered {
 }
 
 #[inline(never)]
+fn called_recover_indexed(journal: &[u8], words: &mut [u64]) -> Recovered {
+    simple::journal_recover_indexed(journal, words)
+}
+
+#[inline(never)]
 fn called_write(journal: &mut [u8], addresses: &[u64]) -> Block {
     simple::journal_write(journal, addresses)
+}
+
+#[inline(never)]
+fn called_record(words: &[u64], address: u64) -> Record {
+    simple::journal_record(words, address)
 }
 
 fn router(node: Node) -> Child {
@@ -151,6 +165,10 @@ fn write(journal: &mut [u8], addresses: &[u64]) -> Block {
     unsafe { sys::pasa_journal_write(journal.as_mut_ptr(), journal.len(), addresses.as_ptr(), addresses.len()) }
 }
 
+fn record(words: &[u64], address: u64) -> Record {
+    unsafe { sys::pasa_journal_record(words.as_ptr(), words.len(), address) }
+}
+
 /// The least time of each side for one of the inputs, in nanoseconds.
 fn times<const N: usize>(sides: [&mut dyn FnMut(); N]) -> [f64; N] {
     times_of(INPUTS, sides)
@@ -183,6 +201,7 @@ macro_rules! each {
         }
     };
 }
+use each;
 
 /// A tree of so many nodes, in the order given, with their records: each request goes to a node given earlier, the first ones more often.
 fn hall(random: &mut Random, size: usize) -> Vec<Node> {
@@ -198,25 +217,30 @@ fn hall(random: &mut Random, size: usize) -> Vec<Node> {
     nodes
 }
 
-/// The plan of a hall, each node's items in the order given: the text of one of its nodes, with all that is below it.
-fn spell(hall: &[Node], address: u64, text: &mut Vec<u8>) {
+/// The text of a node, with all that is below it: the items of each, in the order given.
+fn spell(items: &HashMap<u64, Vec<u64>>, address: u64, text: &mut Vec<u8>) {
     if Address::new(address).is_ok_and(Address::is_host) {
         return text.push(b'H');
     }
     text.extend_from_slice(b"R(");
-    for item in hall.iter().filter(|item| unsafe { sys::pasa_parent(item.address) } == address) {
-        spell(hall, item.address, text);
+    for item in items.get(&address).into_iter().flatten() {
+        spell(items, *item, text);
     }
     text.push(b')');
 }
 
-fn plan(random: &mut Random) -> Vec<u8> {
+/// The plan of a hall of so many nodes.
+fn plan(random: &mut Random, size: usize) -> Vec<u8> {
+    let mut items: HashMap<u64, Vec<u64>> = HashMap::new();
+    for node in &hall(random, size)[1..] {
+        items.entry(unsafe { sys::pasa_parent(node.address) }).or_default().push(node.address);
+    }
     let mut text = Vec::new();
-    spell(&hall(random, PLAN_NODES), Address::ROOT.number(), &mut text);
+    spell(&items, Address::ROOT.number(), &mut text);
     text
 }
 
-/// A journal of 128 slots with the addresses of a hall of 512 nodes, or the first so many of them, in blocks of so many each.
+/// A journal of 128 slots with the first so many addresses of a hall behind the root, in blocks of so many each.
 fn journal(hall: &[Node], addresses: usize, each: usize) -> Vec<u8> {
     let mut journal = vec![0xFF; SLOTS * SLOT];
     let addresses: Vec<u64> = hall[1..=addresses].iter().map(|node| node.address).collect();
@@ -247,8 +271,12 @@ fn recovery_row(name: &str, journals: &[Vec<u8>], nodes: usize) {
     );
 }
 
-/// A row for one block more behind so many addresses in full blocks. What was written is erased again, which is among the time of each side.
-fn writing_row(name: &str, halls: &[Vec<Node>], before: usize, more: usize) {
+/// A writer of either side.
+type Writer = fn(&mut [u8], &[u64]) -> Block;
+
+/// The least time of each writer for one block more behind so many addresses in full blocks. What was written is erased again, which is among the
+/// time.
+fn writing_times<const N: usize>(halls: &[Vec<Node>], before: usize, more: usize, writers: [Writer; N]) -> [f64; N] {
     let made =
         |hall: &Vec<Node>| (journal(hall, before, BLOCK_MOST), hall[before + 1..=before + more].iter().map(|node| node.address).collect());
     let mut journals: Vec<(Vec<u8>, Vec<u64>)> = halls.iter().map(made).collect();
@@ -257,24 +285,18 @@ fn writing_row(name: &str, halls: &[Vec<Node>], before: usize, more: usize) {
         assert_eq!(write(&mut first, block), simple::journal_write(&mut second, block));
         assert!(first == second && first != *journal);
     }
-    let mut side = |write: fn(&mut [u8], &[u64]) -> Block| {
-        for (journal, block) in &mut journals {
-            let slot = black_box(write(journal, block)).slot;
-            journal[slot * SLOT..][..SLOT].fill(0xFF);
-        }
-    };
-    let [mut proved, mut called, mut inlined] = [f64::INFINITY; 3];
+    let mut least = [f64::INFINITY; N];
     for _ in 0..ROUNDS {
-        let mut timed = |least: &mut f64, write: fn(&mut [u8], &[u64]) -> Block| {
+        for (write, least) in writers.iter().zip(&mut least) {
             let start = Instant::now();
-            side(write);
+            for (journal, block) in &mut journals {
+                let slot = black_box(write(journal, block)).slot;
+                journal[slot * SLOT..][..SLOT].fill(0xFF);
+            }
             *least = least.min(start.elapsed().as_nanos() as f64 / halls.len() as f64);
-        };
-        timed(&mut proved, write);
-        timed(&mut called, called_write);
-        timed(&mut inlined, simple::journal_write);
+        }
     }
-    row(name, [proved, called, inlined]);
+    least
 }
 
 /// The check of a block's bytes, recovery from small and large journals, and writing.
@@ -290,13 +312,14 @@ fn journal_rows(random: &mut Random) {
             [each!(octets, |octets| crc(octets)), each!(octets, |octets| called_crc(octets)), each!(octets, |octets| simple::crc(octets))],
         ),
     );
-    let halls: Vec<Vec<Node>> = (0..JOURNALS).map(|_| hall(random, NODES)).collect();
+    let halls: Vec<Vec<Node>> = (0..JOURNALS).map(|_| hall(random, SMALL)).collect();
     let made = |addresses, each| halls.iter().map(|hall| journal(hall, addresses, each)).collect::<Vec<_>>();
     recovery_row("recovery, 128 erased slots", &made(0, 1), 1);
-    recovery_row("recovery, 9 blocks, 511 addresses", &made(NODES - 1, BLOCK_MOST), NODES);
-    recovery_row("recovery, 128 blocks, 511 addresses", &made(NODES - 1, 4), NODES);
-    writing_row("write, the first block, 63 addresses", &halls, 0, BLOCK_MOST);
-    writing_row("write, 7 addresses behind 8 blocks of 63", &halls, 8 * BLOCK_MOST, 7);
+    recovery_row("recovery, 9 blocks, 511 addresses", &made(SMALL - 1, BLOCK_MOST), SMALL);
+    recovery_row("recovery, 128 blocks, 511 addresses", &made(SMALL - 1, 4), SMALL);
+    let writers = [write, called_write, simple::journal_write];
+    row("write, the first block, 63 addresses", writing_times(&halls, 0, BLOCK_MOST, writers));
+    row("write, 7 addresses behind 8 blocks of 63", writing_times(&halls, 8 * BLOCK_MOST, 7, writers));
 }
 
 /// Both sides' answers compared, then a row for each kind of child.
@@ -539,17 +562,17 @@ fn main() {
         );
     }
 
-    let plans: Vec<Vec<u8>> = (0..PLANS).map(|_| plan(random)).collect();
+    let plans: Vec<Vec<u8>> = (0..PLANS).map(|_| plan(random, SMALL)).collect();
     let mut words = [0; PLAN_NODES];
     let mut words2 = [0; PLAN_NODES];
     let mut words3 = [0; PLAN_NODES];
     for text in &plans {
         let read = plan_read(text, &mut words);
-        assert_eq!(read, Plan { nodes: PLAN_NODES, place: 0, refusal: 0 });
+        assert_eq!(read, Plan { nodes: SMALL, place: 0, refusal: 0 });
         assert_eq!((simple::plan_read(text, &mut words2), words2), (read, words));
     }
     row(
-        &format!("plan of {PLAN_NODES} nodes"),
+        &format!("plan of {SMALL} nodes"),
         times_of(
             PLANS,
             [
@@ -595,4 +618,6 @@ fn main() {
     println!("| proved, batch | {proved:.2} | {} |", size_of::<Node>());
     println!("| hash map | {hashed:.2} | {} |", slots * 17);
     println!("| sorted table | {searched:.2} | {} |", sorted.len() * 16);
+
+    growth::tables(random);
 }

@@ -1,6 +1,13 @@
 //! The functions as one would write them in Rust by hand, on 64-bit numbers: straight from the rules, with the language's own means and
 //! without tricks.
-use pasa::sys::{Block, Child, Hop, Limited, Listed, Node, Plan, Read, Recovered, Written, DELIVERED, STOPPED, TO_CHILD, TO_PARENT};
+use pasa::sys::{
+    Block, Child, Hop, Limited, Listed, Node, Plan, Read, Record, Recovered, Written, DELIVERED, STOPPED, TO_CHILD, TO_PARENT,
+};
+use std::collections::HashSet;
+
+/// "A plan and a recovered journal may now have 4,096 nodes, the root counted, and a plan 32,768 bytes."
+const MOST_NODES: usize = 4096;
+const MOST_BYTES: usize = 32_768;
 
 fn bit_length(address: u64) -> u32 {
     64 - address.leading_zeros()
@@ -264,18 +271,18 @@ fn plan_addresses(text: &[u8], words: &mut [u64]) -> Option<()> {
 #[inline]
 pub fn plan_read(text: &[u8], words: &mut [u64]) -> Plan {
     let refused = |refusal, place| Plan { nodes: 0, place, refusal };
-    if text.len() > 4096 {
+    if text.len() > MOST_BYTES {
         return refused(14, 0);
     }
     let nodes = match plan_nodes(text) {
         Ok(nodes) => nodes,
         Err(place) => return refused(13, place),
     };
-    if nodes > 512 {
+    if nodes > MOST_NODES {
         return refused(14, 0);
     }
     // not into the words lent, which stay as they are if an address is too long
-    let mut addresses = [0; 512];
+    let mut addresses = [0; MOST_NODES];
     if plan_addresses(text, &mut addresses).is_none() {
         return refused(3, 0);
     }
@@ -320,20 +327,28 @@ fn before(address: u64) -> u64 {
 }
 
 /// One address more behind the nodes known, or the refusal.
-fn take(address: u64, nodes: usize, words: &mut [u64]) -> Result<usize, u8> {
-    let known = &words[..nodes];
-    if !known.contains(&before(address)) || known.contains(&address) {
+fn put(address: u64, is_next: bool, nodes: usize, words: &mut [u64]) -> Result<usize, u8> {
+    if !is_next {
         return Err(17);
     }
-    if nodes == 512 {
+    if nodes == MOST_NODES {
         return Err(14);
     }
     words[nodes] = address;
     Ok(nodes + 1)
 }
 
+/// The same where it is looked for among the nodes known.
+fn take(address: u64, nodes: usize, words: &mut [u64]) -> Result<usize, u8> {
+    let known = &words[..nodes];
+    let is_next = known.contains(&before(address)) && !known.contains(&address);
+    put(address, is_next, nodes, words)
+}
+
+type Replayed = Result<(usize, usize), u8>;
+
 /// The nodes known and the slots written, or the first fault.
-fn replay(journal: &[u8], words: &mut [u64]) -> Result<(usize, usize), u8> {
+fn replay(journal: &[u8], words: &mut [u64], mut take: impl FnMut(u64, usize, &mut [u64]) -> Result<usize, u8>) -> Replayed {
     words[0] = 1;
     let mut nodes = 1;
     let mut written = 0;
@@ -362,13 +377,12 @@ fn is_journal(journal: &[u8]) -> bool {
     journal.len() % 512 == 0 && (1..=128).contains(&(journal.len() / 512))
 }
 
-#[inline]
-pub fn journal_recover(journal: &[u8], words: &mut [u64]) -> Recovered {
+fn recover(journal: &[u8], words: &mut [u64], replay: impl FnOnce(&[u8], &mut [u64]) -> Replayed) -> Recovered {
     let refused = |refusal| Recovered { nodes: 0, refusal };
     if !is_journal(journal) {
         return refused(12);
     }
-    if words.len() < 512 {
+    if words.len() < MOST_NODES {
         return refused(10);
     }
     match replay(journal, words) {
@@ -384,13 +398,30 @@ pub fn journal_recover(journal: &[u8], words: &mut [u64]) -> Recovered {
 }
 
 #[inline]
+pub fn journal_recover(journal: &[u8], words: &mut [u64]) -> Recovered {
+    recover(journal, words, |journal, words| replay(journal, words, take))
+}
+
+/// The same with a set of the nodes known beside the words, in memory of its own: what an index saves.
+pub fn journal_recover_indexed(journal: &[u8], words: &mut [u64]) -> Recovered {
+    let mut known = HashSet::with_capacity(MOST_NODES);
+    known.insert(1);
+    recover(journal, words, |journal, words| {
+        replay(journal, words, |address, nodes, words| {
+            let is_next = known.contains(&before(address)) && known.insert(address);
+            put(address, is_next, nodes, words)
+        })
+    })
+}
+
+#[inline]
 pub fn journal_write(journal: &mut [u8], addresses: &[u64]) -> Block {
     let refused = |refusal| Block { slot: 0, refusal };
     if !is_journal(journal) || !(1..=63).contains(&addresses.len()) {
         return refused(12);
     }
-    let mut words = [0; 512];
-    let followed = replay(journal, &mut words).and_then(|(mut nodes, written)| {
+    let mut words = [0; MOST_NODES];
+    let followed = replay(journal, &mut words, take).and_then(|(mut nodes, written)| {
         for address in addresses {
             nodes = take(*address, nodes, &mut words)?;
         }
@@ -411,4 +442,26 @@ pub fn journal_write(journal: &mut [u8], addresses: &[u64]) -> Block {
     let crc = crc(&out[..509]).to_be_bytes();
     out[509..511].copy_from_slice(&crc);
     Block { slot, refusal: 0 }
+}
+
+#[inline]
+pub fn journal_record(words: &[u64], address: u64) -> Record {
+    let nobody = Node { address: 0, routers: 0, hosts: 0, router_limit: 0, host_limit: 0 };
+    if address == 0 {
+        return Record { node: nobody, found: 0 };
+    }
+    let mut node = fresh(address);
+    let mut found = false;
+    for word in words {
+        found |= *word == address;
+        if parent(*word) == address {
+            let count = if is_host(*word) { &mut node.hosts } else { &mut node.routers };
+            *count = count.saturating_add(1);
+        }
+    }
+    if found {
+        Record { node, found: 1 }
+    } else {
+        Record { node: nobody, found: 0 }
+    }
 }
