@@ -35,8 +35,8 @@ extern "C" {
 #define PASA_PATH_MOST 126
 
 /* The most nodes of a plan, the root counted, and the most bytes of its text. */
-#define PASA_PLAN_NODES 512
-#define PASA_PLAN_BYTES 4096
+#define PASA_PLAN_NODES 4096
+#define PASA_PLAN_BYTES 32768
 
 /* The bytes of a journal's slot, the most slots of a journal, and the most addresses of a block. */
 #define PASA_SLOT 512
@@ -44,7 +44,7 @@ extern "C" {
 #define PASA_BLOCK_MOST 63
 
 /* The most nodes that are recovered from a journal, the root counted, and the fewest words that recovery wants lent. */
-#define PASA_NODES 512
+#define PASA_NODES 4096
 
 /* The refusals, by the documents' numbers. */
 enum pasa_refusal {

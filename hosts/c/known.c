@@ -584,13 +584,84 @@ static void plans_outside_the_grammar(void)
     plan_refused("R(, a zero byte, )", (struct text){{'R', '(', 0, ')'}, 4}, 2, PASA_BAD_PLAN);
 }
 
+/* The root with so many hosts, closed or not. */
+static struct text hosts_of_the_root(size_t hosts, bool closed)
+{
+    return then(then(many("R(", 1), "H", hosts), ")", closed);
+}
+
+/* "a plan 32,768 bytes" */
+static void plans_about_their_bytes(void)
+{
+    same("the most bytes of a plan", PASA_PLAN_BYTES, 32768);
+    plan_refused("32,768 bytes of nonsense", many("x", 32768), 0, PASA_BAD_PLAN);
+    plan_refused("32,769 bytes of nonsense", many("x", 32769), 0, PASA_TOO_MANY);
+    plan_refused("32,768 bytes, never closed", hosts_of_the_root(32766, false), 32768, PASA_BAD_PLAN);
+    plan_refused("32,769 bytes, never closed", hosts_of_the_root(32767, false), 0, PASA_TOO_MANY);
+    plan_refused("32,768 bytes, the last of them wrong", then(hosts_of_the_root(32765, false), "x", 1), 32767, PASA_BAD_PLAN);
+    plan_refused("32,769 bytes, the last of them wrong", then(hosts_of_the_root(32766, false), "x", 1), 0, PASA_TOO_MANY);
+    plan_refused("32,768 bytes, closed", hosts_of_the_root(32765, true), 0, PASA_TOO_MANY);
+    plan_refused("32,769 bytes, closed", hosts_of_the_root(32766, true), 0, PASA_TOO_MANY);
+    /* about the limit before request Six, which is none */
+    plan_refused("4,096 bytes of nonsense", many("x", 4096), 0, PASA_BAD_PLAN);
+    plan_refused("4,097 bytes of nonsense", many("x", 4097), 0, PASA_BAD_PLAN);
+    plan_refused("4,096 bytes, never closed", hosts_of_the_root(4094, false), 4096, PASA_BAD_PLAN);
+    plan_refused("4,097 bytes, never closed", hosts_of_the_root(4095, false), 4097, PASA_BAD_PLAN);
+    plan_refused("4,096 bytes, closed", hosts_of_the_root(4093, true), 0, PASA_TOO_LONG);
+    plan_refused("4,097 bytes, closed", hosts_of_the_root(4094, true), 0, PASA_TOO_LONG);
+}
+
+/* A root with so many routers, each with as many routers with as many items as the second number says, the root not yet closed. */
+static struct text three_levels(size_t routers, size_t each, const char *item)
+{
+    struct text text = many("R(", 1);
+    for (size_t i = 0; i < routers; i++) {
+        text = then(text, "R(", 1);
+        for (size_t j = 0; j < each; j++)
+            text = then(then(then(text, "R(", 1), item, each), ")", 1);
+        text = then(text, ")", 1);
+    }
+    return text;
+}
+
+/* "A plan .. may now have 4,096 nodes, the root counted" */
+static void plans_about_their_nodes(void)
+{
+    same("the most nodes of a plan", PASA_PLAN_NODES, 4096);
+    /* a root with 15 routers, each with 16 routers of 16 hosts: 1 + 15 * (1 + 16 * (1 + 16)) */
+    struct text most = three_levels(15, 16, "H");
+    plan_read("4,096 nodes", then(most, ")", 1), 4096);
+    same("4,096 nodes: the first address", lent[0], PASA_ROOT);
+    same("4,096 nodes: the second address", lent[1], bits("10"));
+    same("4,096 nodes: the last address", lent[4095], bits("1" "111111111111110" "1111111111111110" "1111111111111111"));
+    same_plan("4,096 nodes, no words", read_plan(then(most, ")", 1), 0), 0, 0, PASA_NO_ROOM);
+    same_plan("4,096 nodes, 512 words", read_plan(then(most, ")", 1), 512), 0, 0, PASA_NO_ROOM);
+    plan_refused("4,097 nodes", then(most, "H)", 1), 0, PASA_TOO_MANY);
+    plan_refused("4,097 nodes, the last of them a router", then(most, "R())", 1), 0, PASA_TOO_MANY);
+    /* a node takes at most three bytes: no right text is longer */
+    struct text longest = three_levels(15, 16, "R()");
+    same("4,096 routers: the bytes", longest.length + 1, 12288);
+    plan_read("4,096 routers", then(longest, ")", 1), 4096);
+    same("4,096 routers: the last address", lent[4095], bits("1" "111111111111110" "1111111111111110" "1111111111111110"));
+    plan_refused("4,097 routers", then(longest, "R())", 1), 0, PASA_TOO_MANY);
+    plan_refused("4,096 routers and a host", then(longest, "H)", 1), 0, PASA_TOO_MANY);
+
+    /* about the limit before request Six, which is none: a root with 7 routers, each with 8 routers of 8 hosts, 1 + 7 * (1 + 8 * (1 + 8)) */
+    most = three_levels(7, 8, "H");
+    plan_read("512 nodes", then(most, ")", 1), 512);
+    same("512 nodes: the first address", lent[0], PASA_ROOT);
+    same("512 nodes: the second address", lent[1], bits("10"));
+    same("512 nodes: the last address", lent[511], bits("1" "1111110" "11111110" "11111111"));
+    plan_read("513 nodes", then(most, "H)", 1), 513);
+    same("513 nodes: the last address", lent[512], bits("11"));
+    plan_read("513 nodes, the last of them a router", then(most, "R())", 1), 513);
+    same("513 nodes, the last of them a router: its address", lent[512], bits("1" "11111110"));
+}
+
 static void plans_about_their_limits(void)
 {
-    plan_refused("4,096 bytes of nonsense", many("x", PASA_PLAN_BYTES), 0, PASA_BAD_PLAN);
-    plan_refused("4,097 bytes of nonsense", many("x", PASA_PLAN_BYTES + 1), 0, PASA_TOO_MANY);
-    plan_refused("4,096 bytes, never closed", then(many("R(", 1), "H", 4094), 4096, PASA_BAD_PLAN);
-    plan_refused("4,097 bytes, never closed", then(many("R(", 1), "H", 4095), 0, PASA_TOO_MANY);
-    plan_refused("4,096 bytes, closed", then(then(many("R(", 1), "H", 4093), ")", 1), 0, PASA_TOO_MANY);
+    plans_about_their_bytes();
+    plans_about_their_nodes();
 
     plan_read("64 groups", then(many("R(", 64), ")", 64), 64);
     for (size_t i = 0; i < 64; i++)
@@ -600,33 +671,25 @@ static void plans_about_their_limits(void)
     plan_refused("64 groups and the R of one more", then(many("R(", 64), "R", 1), 128, PASA_BAD_PLAN);
     plan_refused("64 groups, never closed", many("R(", 64), 128, PASA_BAD_PLAN);
 
-    plan_read("63 hosts", then(then(many("R(", 1), "H", 63), ")", 1), 64);
+    plan_read("63 hosts", hosts_of_the_root(63, true), 64);
     same("63 hosts: the last address", lent[63], UINT64_MAX);
-    plan_refused("64 hosts", then(then(many("R(", 1), "H", 64), ")", 1), 0, PASA_TOO_LONG);
+    plan_refused("64 hosts", hosts_of_the_root(64, true), 0, PASA_TOO_LONG);
     plan_read("63 routers", then(then(many("R(", 1), "R()", 63), ")", 1), 64);
     same("63 routers: the last address", lent[63], UINT64_MAX - 1);
     plan_refused("64 routers", then(then(many("R(", 1), "R()", 64), ")", 1), 0, PASA_TOO_LONG);
     plan_read("63 of each kind", then(then(many("R(", 1), "R()H", 63), ")", 1), 127);
-
-    /* a root with 7 routers, each with 8 routers of 8 hosts: 1 + 7 * (1 + 8 * (1 + 8)) */
-    struct text most = many("R(", 1);
-    for (size_t i = 0; i < 7; i++)
-        most = then(then(then(most, "R(", 1), "R(HHHHHHHH)", 8), ")", 1);
-    plan_read("512 nodes", then(most, ")", 1), PASA_PLAN_NODES);
-    same("512 nodes: the first address", lent[0], PASA_ROOT);
-    same("512 nodes: the second address", lent[1], bits("10"));
-    same("512 nodes: the last address", lent[511], bits("1" "1111110" "11111110" "11111111"));
-    plan_refused("513 nodes", then(most, "H)", 1), 0, PASA_TOO_MANY);
-    plan_refused("513 nodes, the last of them a router", then(most, "R())", 1), 0, PASA_TOO_MANY);
 }
 
-/* "Then a text outside the grammar: 13 .. Then over 512 nodes: 14. Then an address too long: 3. Then no room: 10." */
+/* "Then a text outside the grammar: 13 .. Then over 512 nodes: 14", 4,096 since request Six. "Then an address too long: 3. Then no room: 10." */
 static void plans_of_two_refusals(void)
 {
-    plan_refused("512 hosts, and a byte too many", then(then(many("R(", 1), "H", 512), ")x", 1), 515, PASA_BAD_PLAN);
-    plan_refused("64 hosts, and a byte too many", then(then(many("R(", 1), "H", 64), ")x", 1), 67, PASA_BAD_PLAN);
-    plan_refused("512 hosts", then(then(many("R(", 1), "H", 512), ")", 1), 0, PASA_TOO_MANY);
-    plan_refused("511 hosts", then(then(many("R(", 1), "H", 511), ")", 1), 0, PASA_TOO_LONG);
+    plan_refused("4,096 hosts, and a byte too many", then(hosts_of_the_root(4096, true), "x", 1), 4099, PASA_BAD_PLAN);
+    plan_refused("512 hosts, and a byte too many", then(hosts_of_the_root(512, true), "x", 1), 515, PASA_BAD_PLAN);
+    plan_refused("64 hosts, and a byte too many", then(hosts_of_the_root(64, true), "x", 1), 67, PASA_BAD_PLAN);
+    plan_refused("4,096 hosts", hosts_of_the_root(4096, true), 0, PASA_TOO_MANY);
+    plan_refused("4,095 hosts", hosts_of_the_root(4095, true), 0, PASA_TOO_LONG);
+    plan_refused("512 hosts", hosts_of_the_root(512, true), 0, PASA_TOO_LONG);
+    plan_refused("511 hosts", hosts_of_the_root(511, true), 0, PASA_TOO_LONG);
 }
 
 static void plans_by_null_pointers(void)
@@ -677,9 +740,12 @@ static void put_block(size_t slot, const uint64_t *addresses, size_t count)
     bytes[LAST] = 0xA5;
 }
 
+/* As many addresses as the slots of a journal hold, which are more than a hall may have. */
+enum { SLOTS_HOLD = PASA_SLOTS * PASA_BLOCK_MOST };
+
 /* Addresses as they are given: so many children of a kind of a node behind those that are in the list. */
 struct list {
-    uint64_t addresses[PASA_NODES + 8];
+    uint64_t addresses[SLOTS_HOLD];
     size_t count;
 };
 
@@ -695,16 +761,18 @@ static struct list nobody(void)
     return (struct list){{0}, 0};
 }
 
-/* 511 addresses: 63 routers and 63 hosts of the root, 62 and 62 of node 10, 61 and 61 of node 100, 60 and 60 of node 1000, and 19 routers of
- * node 10000. */
-static struct list most_addresses(void)
+/* So many addresses: 63 routers and 63 hosts of the root, 62 and 62 of node 10, 61 and 61 of node 100, and so on down to the longest; then in the
+ * same way those of node 110, of 1100 and so on, and those of 1110. */
+static struct list first_addresses(size_t count)
 {
     struct list list = nobody();
-    for (unsigned depth = 0; depth < 4; depth++) {
-        list = give(list, UINT64_C(1) << depth, 0, 63 - depth, 0);
-        list = give(list, UINT64_C(1) << depth, 0, 63 - depth, 1);
-    }
-    return give(list, 16, 0, PASA_NODES - 1 - list.count, 0);
+    for (uint64_t first = PASA_ROOT; list.count < count; first = first == PASA_ROOT ? 6 : 2 * first + 2)
+        for (uint64_t parent = first; pasa_bit_length(parent) < PASA_LONGEST; parent *= 2)
+            for (int host = 0; host < 2; host++) {
+                size_t room = PASA_LONGEST - pasa_bit_length(parent), left = count - list.count;
+                list = give(list, parent, 0, room < left ? room : left, host);
+            }
+    return list;
 }
 
 /* The list in blocks of so many addresses each, the last one shorter, from a slot on. The number of the slot behind them. */
@@ -719,7 +787,9 @@ static size_t put_blocks(size_t slot, const struct list *list, size_t each)
  * only the words remember. */
 static void remember(uint64_t *words, size_t count)
 {
-    struct list list = most_addresses();
+    static struct list list;
+    if (list.count == 0)
+        list = first_addresses(PASA_NODES - 1);
     for (size_t i = 0; i < count; i++)
         words[i] = i == 0 ? PASA_ROOT : list.addresses[(i - 1) % list.count];
 }
@@ -1107,8 +1177,8 @@ static void addresses_that_are_no_next_children(void)
     recovers("them all", 2, &all);
 }
 
-/* "Recovery first checks the length (12), then that at least 512 words are lent (10)"; "The writer refuses in this order: 12 if the journal's
- * length is wrong or n is outside 1 to 63" */
+/* "Recovery first checks the length (12), then that at least 512 words are lent (10)", "Recovery wants 4,096 words lent"; "The writer refuses in
+ * this order: 12 if the journal's length is wrong or n is outside 1 to 63" */
 static void journals_of_wrong_lengths(void)
 {
     const size_t wrong[] = {0, 1, 511, 513, 1023, PASA_SLOTS * PASA_SLOT - 1, PASA_SLOTS * PASA_SLOT + 1, JOURNAL};
@@ -1123,8 +1193,10 @@ static void journals_of_wrong_lengths(void)
             same("a journal of a wrong length: the words", memcmp(words, words_before, sizeof words) != 0, 0);
             refuses("a block for a journal of a wrong length", wrong[i], many, 1, PASA_WRONG_LENGTH);
         }
-    for (size_t room = 0; room < PASA_NODES; room += PASA_NODES - 1) {
-        struct pasa_recovered got = recover("too few words", PASA_SLOT, room);
+    same("the words that recovery wants", PASA_NODES, 4096);
+    const size_t few[] = {0, 1, 511, 512, 513, 4095};
+    for (size_t i = 0; i < sizeof few / sizeof *few; i++) {
+        struct pasa_recovered got = recover("too few words", PASA_SLOT, few[i]);
         same("too few words: the refusal", got.refusal, PASA_NO_ROOM);
         same("too few words: the nodes", got.nodes, 0);
         same("too few words: the words", memcmp(words, words_before, sizeof words) != 0, 0);
@@ -1139,40 +1211,95 @@ static void journals_of_wrong_lengths(void)
     same("no addresses", pasa_journal_write(journal, PASA_SLOT, NULL, 0).refusal, PASA_WRONG_LENGTH);
 }
 
-/* "a 513th node, the root counted, is 14, but 17 if it is no next child" */
+/* "a 513th node, the root counted, is 14, but 17 if it is no next child": a 4,097th since request Six */
 static void halls_of_most_nodes(void)
 {
-    struct list most = most_addresses();
-    same("the addresses of the largest hall", most.count, PASA_NODES - 1);
-    const uint64_t next = most.addresses[most.count - 1] * 2 + 2, other = next * 2 + 2, known = 2;
+    struct list most = first_addresses(4095), more = first_addresses(4097);
+    const uint64_t last = more.addresses[4094], next = more.addresses[4095], other = more.addresses[4096], known = 2;
     erase();
     size_t slots = put_blocks(0, &most, PASA_BLOCK_MOST);
-    same("the slots of 511 addresses", slots, 9);
-    recovers("512 nodes in 9 blocks", slots, &most);
-    recovers("512 nodes in 9 blocks of 128 slots", PASA_SLOTS, &most);
-    refuses("a 513th node", PASA_SLOTS * PASA_SLOT, &next, 1, PASA_TOO_MANY);
-    refuses("a 513th node that is no next child", PASA_SLOTS * PASA_SLOT, &other, 1, PASA_BAD_JOURNAL);
-    refuses("a 513th node that is known", PASA_SLOTS * PASA_SLOT, &known, 1, PASA_BAD_JOURNAL);
-    refuses("a 513th node, and then one that is no next child", PASA_SLOTS * PASA_SLOT, (const uint64_t[]){next, 0}, 2, PASA_TOO_MANY);
+    same("the slots of 4,095 addresses", slots, 65);
+    recovers("4,096 nodes in 65 blocks", slots, &most);
+    recovers("4,096 nodes in 65 blocks of 128 slots", PASA_SLOTS, &most);
+    refuses("a 4,097th node", PASA_SLOTS * PASA_SLOT, &next, 1, PASA_TOO_MANY);
+    refuses("a 4,097th node that is no next child", PASA_SLOTS * PASA_SLOT, &other, 1, PASA_BAD_JOURNAL);
+    refuses("a 4,097th node that is known", PASA_SLOTS * PASA_SLOT, &known, 1, PASA_BAD_JOURNAL);
+    refuses("a 4,097th node that is the last one", PASA_SLOTS * PASA_SLOT, &last, 1, PASA_BAD_JOURNAL);
+    refuses("a 4,097th node, and then one that is no next child", PASA_SLOTS * PASA_SLOT, (const uint64_t[]){next, 0}, 2, PASA_TOO_MANY);
     put_block(slots, &next, 1);
-    faulty("a 513th node written", slots + 1, PASA_TOO_MANY);
+    faulty("a 4,097th node written", slots + 1, PASA_TOO_MANY);
     memset(slot_of(slots + 1), 0, PASA_SLOT);
-    faulty("a 513th node, and then a slot of zeros", slots + 2, PASA_TOO_MANY);
+    faulty("a 4,097th node, and then a slot of zeros", slots + 2, PASA_TOO_MANY);
+    put_block(slots, (const uint64_t[]){next, 0}, 2);
+    faulty("a 4,097th node, and zero behind it", slots + 1, PASA_TOO_MANY);
     put_block(slots, &other, 1);
-    faulty("a 513th node written that is no next child", slots + 1, PASA_BAD_JOURNAL);
+    faulty("a 4,097th node written that is no next child", slots + 1, PASA_BAD_JOURNAL);
+    put_block(slots, &known, 1);
+    faulty("a 4,097th node written that is known", slots + 1, PASA_BAD_JOURNAL);
     put_block(slots, &next, 1);
     slot_of(slots)[510] ^= 1;
-    faulty("a 513th node in a wrong block", slots + 1, PASA_BAD_JOURNAL);
+    faulty("a 4,097th node in a wrong block", slots + 1, PASA_BAD_JOURNAL);
+    put_block(slots, &next, 1);
+    slot_of(slots)[LAST] = ERASED;
+    recovers("a 4,097th node in a torn slot", slots + 1, &most);
+    memset(slot_of(slots), ERASED, PASA_SLOT);
+    put_block(slots + 1, &next, 1);
+    faulty("a 4,097th node behind an erased slot", slots + 2, PASA_BAD_JOURNAL);
+
+    /* the 4,096th node and a 4,097th in one block */
+    erase();
+    most.count--;
+    same("the slots of 4,094 addresses", put_blocks(0, &most, PASA_BLOCK_MOST), slots);
+    refuses("two nodes more than 4,095", PASA_SLOTS * PASA_SLOT, (const uint64_t[]){last, next}, 2, PASA_TOO_MANY);
+    refuses("two nodes more than 4,095, a wrong one last", PASA_SLOTS * PASA_SLOT, (const uint64_t[]){last, other}, 2, PASA_BAD_JOURNAL);
+    put_block(slots, (const uint64_t[]){last, next}, 2);
+    faulty("two nodes more than 4,095 written", slots + 1, PASA_TOO_MANY);
+    memset(slot_of(slots), ERASED, PASA_SLOT);
+    writes("a 4,096th node", PASA_SLOTS, &last, 1, slots);
+    most.count++;
+    recovers("a 4,096th node in a block of its own", PASA_SLOTS, &most);
+}
+
+/* About the limit before request Six, which is none. */
+static void halls_of_about_512_nodes(void)
+{
+    struct list hall = first_addresses(511);
+    erase();
+    size_t slots = put_blocks(0, &hall, PASA_BLOCK_MOST);
+    same("the slots of 511 addresses", slots, 9);
+    recovers("512 nodes in 9 blocks", slots, &hall);
+    recovers("512 nodes in 9 blocks of 128 slots", PASA_SLOTS, &hall);
+    hall = first_addresses(513);
+    refuses("a 513th node that is no next child", PASA_SLOTS * PASA_SLOT, hall.addresses + 512, 1, PASA_BAD_JOURNAL);
+    writes("a 513th node", PASA_SLOTS, hall.addresses + 511, 1, slots);
+    writes("a 514th node", PASA_SLOTS, hall.addresses + 512, 1, slots + 1);
+    recovers("514 nodes", PASA_SLOTS, &hall);
+}
+
+/* 128 slots hold 8,064 addresses, which are more than a hall may have. */
+static void journals_of_more_than_a_hall(void)
+{
+    struct list all = first_addresses(SLOTS_HOLD);
+    same("the addresses that 128 slots hold", all.count, 8064);
+    erase();
+    same("128 full blocks", put_blocks(0, &all, PASA_BLOCK_MOST), PASA_SLOTS);
+    faulty("128 full blocks", PASA_SLOTS, PASA_TOO_MANY);
+    faulty("66 full blocks of them", 66, PASA_TOO_MANY);
+    memset(slot_of(127), 0, PASA_SLOT);
+    faulty("127 full blocks, and then a slot of zeros", PASA_SLOTS, PASA_TOO_MANY);
+    memset(slot_of(66), 0, PASA_SLOT);
+    faulty("full blocks with a slot of zeros behind the 4,097th node", PASA_SLOTS, PASA_TOO_MANY);
+    memset(slot_of(65), 0, PASA_SLOT);
+    faulty("full blocks with a slot of zeros before the 4,097th node", PASA_SLOTS, PASA_BAD_JOURNAL);
+    all.count = 4095;
+    recovers("65 full blocks of them", 65, &all);
 }
 
 /* "14 or 17 exactly if recovery gives it for the journal, or else for its written slots and this block after them, even a 129th; 10 if no slot is
  * erased" */
 static void journals_without_an_erased_slot(void)
 {
-    struct list most = most_addresses();
-    struct list some = nobody();
-    memcpy(some.addresses, most.addresses, PASA_SLOTS * sizeof *most.addresses);
-    some.count = PASA_SLOTS;
+    struct list most = first_addresses(4095), some = first_addresses(PASA_SLOTS);
     erase();
     same("128 blocks", put_blocks(0, &some, 1), PASA_SLOTS);
     recovers("128 blocks", PASA_SLOTS, &some);
@@ -1180,10 +1307,19 @@ static void journals_without_an_erased_slot(void)
     refuses("a 129th block of 63", PASA_SLOTS * PASA_SLOT, most.addresses + PASA_SLOTS, 63, PASA_NO_ROOM);
     refuses("a 129th block that is no next child", PASA_SLOTS * PASA_SLOT, most.addresses + PASA_SLOTS + 1, 1, PASA_BAD_JOURNAL);
     refuses("a 129th block of zero", PASA_SLOTS * PASA_SLOT, (const uint64_t[]){0}, 1, PASA_BAD_JOURNAL);
-    same("511 addresses in 128 blocks", put_blocks(0, &most, 4), PASA_SLOTS);
-    recovers("511 addresses in 128 blocks", PASA_SLOTS, &most);
-    const uint64_t next = most.addresses[most.count - 1] * 2 + 2;
-    refuses("a 513th node in a 129th block", PASA_SLOTS * PASA_SLOT, &next, 1, PASA_TOO_MANY);
+    some = first_addresses(511);
+    same("511 addresses in 128 blocks", put_blocks(0, &some, 4), PASA_SLOTS);
+    recovers("511 addresses in 128 blocks", PASA_SLOTS, &some);
+    refuses("a 513th node in a 129th block", PASA_SLOTS * PASA_SLOT, most.addresses + 511, 1, PASA_NO_ROOM);
+    same("4,095 addresses in 128 blocks", put_blocks(0, &most, 32), PASA_SLOTS);
+    recovers("4,095 addresses in 128 blocks", PASA_SLOTS, &most);
+    struct list more = first_addresses(4097);
+    refuses("a 4,097th node in a 129th block", PASA_SLOTS * PASA_SLOT, more.addresses + 4095, 1, PASA_TOO_MANY);
+    refuses("a 4,097th node in a 129th block that is no next child", PASA_SLOTS * PASA_SLOT, more.addresses + 4096, 1, PASA_BAD_JOURNAL);
+    some = first_addresses(4094);
+    same("4,094 addresses in 128 blocks", put_blocks(0, &some, 32), PASA_SLOTS);
+    refuses("a 4,096th node in a 129th block", PASA_SLOTS * PASA_SLOT, more.addresses + 4094, 1, PASA_NO_ROOM);
+    refuses("a 4,096th and a 4,097th node in a 129th block", PASA_SLOTS * PASA_SLOT, more.addresses + 4094, 2, PASA_TOO_MANY);
     erase();
     for (size_t slot = 0; slot < PASA_SLOTS; slot++)
         slot_of(slot)[0] = 0x50;
@@ -1220,6 +1356,19 @@ static void records_of_recovered_words(void)
     record_as("zero, which stands among the words", words, PASA_NODES, 0, none, 0);
     record_as("no words", NULL, 0, 1, none, 0);
     record_as("words without the node's children", words, 1, 1, record("1", 0, 0), 1);
+    /* a hall of 4,096 nodes: the record counts what stands last too */
+    struct list most = first_addresses(4095);
+    erase();
+    put_blocks(0, &most, PASA_BLOCK_MOST);
+    recovers("the largest hall of the records", 65, &most);
+    record_as("the root of 4,096 nodes", words, PASA_NODES, 1, record("1", 63, 63), 1);
+    record_as("node 110 of 4,096", words, PASA_NODES, 6, record("110", 61, 2), 1);
+    record_as("node 110 of 4,096 without the last", words, PASA_NODES - 1, 6, record("110", 61, 1), 1);
+    record_as("the last of 4,096 nodes", words, PASA_NODES, bits("11011"), record("11011", 0, 0), 1);
+    record_as("the last of 4,096 nodes without it", words, PASA_NODES - 1, bits("11011"), none, 0);
+    erase();
+    put_block(0, all.addresses, all.count);
+    recovers("the hall of the records again", 1, &all);
     struct pasa_child next = pasa_child_router(pasa_journal_record(words, PASA_NODES, PASA_ROOT).node);
     same("the root's next router after recovery", next.child, bits("1110"));
     /* "The journal holds no limits, so recovered nodes have 64 and 64." */
@@ -1281,6 +1430,8 @@ int main(void)
     addresses_that_are_no_next_children();
     journals_of_wrong_lengths();
     halls_of_most_nodes();
+    halls_of_about_512_nodes();
+    journals_of_more_than_a_hall();
     journals_without_an_erased_slot();
     records_of_recovered_words();
     a_hall_by_its_requests();

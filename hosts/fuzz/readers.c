@@ -19,7 +19,7 @@
 enum { PAGE = 4096, RECORD = 12, LARGEST = 256 };
 
 /* A plan's text, and the words for its nodes: each a little more than there may be, in whole pages. */
-enum { TEXT = 2 * PAGE, WORDS = 2 * PAGE };
+enum { TEXT = 9 * PAGE, WORDS = 9 * PAGE };
 
 /* A journal, a little more than there may be, and the words for its nodes: as many as are wanted, one less, and some more. */
 enum { JOURNAL = 17 * PAGE, MOST_SLOTS = JOURNAL / PASA_SLOT, FEW = PASA_NODES - 1, SOME = PASA_NODES + 40 };
@@ -213,16 +213,23 @@ static void plan(const uint8_t *text, size_t length)
     plan_into(text, length, nodes > 0 ? nodes - 1 : 0);
 }
 
-/* Each octet spells a piece of a plan, and how often: so a few octets reach the limits, which lie beyond the length of the inputs. The last kind
- * of piece is no part of a plan, but much like one. */
+/* Each octet spells a piece of a plan, and how often, or what so many octets before it have spelled once more: so a few octets reach the limits,
+ * which lie beyond the length of the inputs. The last kind of piece is no part of a plan, but much like one. */
 static void spelled_plan(const uint8_t *octets, size_t count)
 {
     static const char *const pieces[7] = {"R(", "H", ")", "R()", "R(H)", "R", "("};
     static const char *const wrong[8] = {"x", "\n", "\r\n", " ", "r", "h", "\xC8", "[]"};
     uint8_t text[TEXT];
-    size_t length = 0;
+    size_t length = 0, begins[LARGEST];
     for (size_t i = 0; i < count; i++) {
         unsigned kind = octets[i] % 8, number = octets[i] / 8;
+        begins[i] = length;
+        if (kind == 6 && number > 0) {
+            size_t from = begins[i - (number < i ? number : i)], more = length - from < TEXT - length ? length - from : TEXT - length;
+            memcpy(text + length, text + from, more);
+            length += more;
+            continue;
+        }
         const char *piece = kind < 7 ? pieces[kind] : wrong[number % 8];
         size_t size = strlen(piece);
         size_t times = kind < 5 ? number + 1 : 1;
@@ -307,10 +314,12 @@ static void block_into(const uint8_t *journal, size_t length, const uint64_t *ad
 }
 
 /* The hall from which the blocks of a spelled journal have their addresses; also beyond what a journal may hold. */
+enum { GIVEN = (MOST_SLOTS + 1) * PASA_BLOCK_MOST };
+
 struct spelled {
     uint8_t journal[JOURNAL];
     size_t slots;
-    struct known_node nodes[1024];
+    struct known_node nodes[GIVEN];
     size_t count;
 };
 
@@ -318,7 +327,7 @@ struct spelled {
 static size_t give(struct spelled *hall, uint64_t *addresses, size_t count, unsigned seed)
 {
     size_t given = 0;
-    for (size_t tries = 0; given < count && tries < 4 * count && hall->count < 1024; tries++) {
+    for (size_t tries = 0; given < count && tries < 4 * count && hall->count < GIVEN; tries++) {
         seed = seed * 1103515245 + 12345;
         struct known_node *node = &hall->nodes[(seed >> 16) % hall->count];
         bool host = (seed >> 9) % 2 != 0;
@@ -353,9 +362,9 @@ static void change(struct spelled *hall, size_t place, uint8_t byte, bool right_
     }
 }
 
-/* Each octet spells a slot, or more: a block of next children, a full one, many short ones, one of the octets behind it whatever they are, one of
- * no addresses, a torn slot, erased ones; or a change of the slot before, or some bytes more, which make the journal's length a wrong one. Then it
- * is recovered from, and written to with next children and with some that are none. */
+/* Each octet spells a slot, or more: a block of next children, a full one or 32, many short ones, one of the octets behind it whatever they are,
+ * one of no addresses, a torn slot, erased ones; or a change of the slot before, or some bytes more, which make the journal's length a wrong one.
+ * Then it is recovered from, and written to with next children and with some that are none. */
 static void spelled_journal(const uint8_t *octets, size_t count)
 {
     static struct spelled hall;
@@ -374,7 +383,8 @@ static void spelled_journal(const uint8_t *octets, size_t count)
             put_slot(&hall, addresses, give(&hall, addresses, number + 1, sum));
             break;
         case 1:
-            put_slot(&hall, addresses, give(&hall, addresses, PASA_BLOCK_MOST, sum));
+            for (unsigned block = 0; block < (number == 31 ? 32 : 1); block++)
+                put_slot(&hall, addresses, give(&hall, addresses, PASA_BLOCK_MOST, sum + block));
             break;
         case 2:
             for (unsigned block = 0; block <= number; block++)

@@ -3,6 +3,7 @@
 #define REFERENCE_H
 
 #include <stdbool.h>
+#include <string.h>
 
 #include "pasa.h"
 
@@ -239,7 +240,7 @@ static struct digits planned_child(struct planned *router, bool host)
     return child;
 }
 
-/* Lists the addresses of a plan that has at most 512 nodes, and answers how many there are; none where one is too long. */
+/* Lists the addresses of a plan that has at most 4,096 nodes, and answers how many there are; none where one is too long. */
 static size_t plan_addresses(const uint8_t *text, size_t length, uint64_t *addresses)
 {
     struct planned open[64];
@@ -262,10 +263,10 @@ static size_t plan_addresses(const uint8_t *text, size_t length, uint64_t *addre
 static struct pasa_plan reference_plan_read(const uint8_t *text, size_t length, uint64_t *words, size_t room)
 {
     struct pasa_plan answer = {0, 0, PASA_DONE};
-    uint64_t addresses[512];
+    uint64_t addresses[4096];
     size_t nodes = 0;
     bool whole;
-    if (length > 4096) {
+    if (length > 32768) {
         answer.refusal = PASA_TOO_MANY;
         return answer;
     }
@@ -277,7 +278,7 @@ static struct pasa_plan reference_plan_read(const uint8_t *text, size_t length, 
     }
     for (size_t i = 0; i < length; i++)
         nodes += text[i] == 'R' || text[i] == 'H';
-    if (nodes > 512) {
+    if (nodes > 4096) {
         answer.refusal = PASA_TOO_MANY;
     } else if (plan_addresses(text, length, addresses) == 0) {
         answer.refusal = PASA_TOO_LONG;
@@ -315,9 +316,14 @@ struct known_node {
     unsigned children[2];
 };
 
+/* The nodes that are known, in their order; and, so that large halls are quicker, where each address stands: its number counted from 1, in the first
+ * place free from the one that its bits give. */
+enum { KNOWN_PLACES = 16384 };
+
 struct known_hall {
-    struct known_node nodes[512];
+    struct known_node nodes[4096];
     size_t count;
+    uint16_t places[KNOWN_PLACES];
 };
 
 /* The parent of an address by its digits; 0 for zero and for the root. */
@@ -342,31 +348,47 @@ UNTOLD static uint64_t known_next(const struct known_node *node, bool host)
     return number_of(child, child.count);
 }
 
+/* The place of an address, or the free one that would be its. */
+UNTOLD static uint16_t *known_place(struct known_hall *hall, uint64_t address)
+{
+    size_t place = (size_t)((address ^ address >> 32) * UINT64_C(0x9E3779B97F4A7C15) >> 50);
+    while (hall->places[place] != 0 && hall->nodes[hall->places[place] - 1].address != address)
+        place = (place + 1) % KNOWN_PLACES;
+    return &hall->places[place];
+}
+
 UNTOLD static struct known_node *known_at(struct known_hall *hall, uint64_t address)
 {
-    for (size_t i = 0; i < hall->count; i++)
-        if (hall->nodes[i].address == address)
-            return &hall->nodes[i];
-    return NULL;
+    uint16_t number = *known_place(hall, address);
+    return number != 0 ? &hall->nodes[number - 1] : NULL;
+}
+
+static void known_add(struct known_hall *hall, uint64_t address)
+{
+    uint16_t *place = known_place(hall, address);
+    hall->nodes[hall->count++] = (struct known_node){address, {0, 0}};
+    *place = (uint16_t)hall->count;
 }
 
 static void known_begin(struct known_hall *hall)
 {
-    hall->nodes[0] = (struct known_node){PASA_ROOT, {0, 0}};
-    hall->count = 1;
+    memset(hall->places, 0, sizeof hall->places);
+    hall->count = 0;
+    known_add(hall, PASA_ROOT);
 }
 
-/* "each are the next child of a node already known .. otherwise 17"; "a 513th node, the root counted, is 14, but 17 if it is no next child" */
+/* "each are the next child of a node already known .. otherwise 17"; "a 513th node, the root counted, is 14, but 17 if it is no next child": a
+ * 4,097th since request Six */
 static uint8_t known_take(struct known_hall *hall, uint64_t address)
 {
     bool host = address % 2 == 1;
     struct known_node *parent = known_at(hall, known_parent(address));
     if (address < 2 || parent == NULL || known_next(parent, host) != address)
         return PASA_BAD_JOURNAL;
-    if (hall->count == 512)
+    if (hall->count == 4096)
         return PASA_TOO_MANY;
     parent->children[host]++;
-    hall->nodes[hall->count++] = (struct known_node){address, {0, 0}};
+    known_add(hall, address);
     return PASA_DONE;
 }
 
@@ -446,7 +468,7 @@ static struct pasa_recovered reference_journal_recover(const uint8_t *journal, s
         answer.refusal = PASA_WRONG_LENGTH;
         return answer;
     }
-    if (room < 512) {
+    if (room < 4096) {
         answer.refusal = PASA_NO_ROOM;
         return answer;
     }
@@ -494,7 +516,7 @@ UNTOLD static struct pasa_record reference_journal_record(const uint64_t *words,
     for (size_t i = 0; i < count; i++) {
         if (words[i] == address && address != 0)
             answer.found = 1;
-        if (address != 0 && known_parent(words[i]) == address && children[words[i] % 2] < 255)
+        if (address != 0 && words[i] != 0 && known_parent(words[i]) == address && children[words[i] % 2] < 255)
             children[words[i] % 2]++;
     }
     if (answer.found == 1)

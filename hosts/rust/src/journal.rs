@@ -13,7 +13,7 @@ pub const SLOTS: usize = 128;
 pub const BLOCK_MOST: usize = 63;
 
 /// The most nodes that are recovered from a journal, the root counted, and the fewest words that recovery wants lent.
-pub const NODES: usize = 512;
+pub const NODES: usize = 4096;
 
 /// Writes a block of 1 to [`BLOCK_MOST`] addresses, in the order given, to the first wholly erased slot of a journal, and answers that slot,
 /// counted from 0. Every other byte stays as it was. Each address must be the next child of a node that the journal or the block holds before it.
@@ -125,7 +125,7 @@ mod tests {
     }
 
     fn hall(nodes: usize, refusal: u8) -> Result<usize, Refusal> {
-        recovered(sys::Recovered { nodes, refusal }, 600)
+        recovered(sys::Recovered { nodes, refusal }, 5000)
     }
 
     fn record(address: u64, found_as: u8) -> Option<Node> {
@@ -137,10 +137,10 @@ mod tests {
 
     #[test]
     fn a_block_is_written_and_a_hall_recovered_by_refusal_0_alone() {
-        assert_eq!((block(3, 0), hall(512, 0)), (Ok(3), Ok(512)));
+        assert_eq!((block(3, 0), hall(4096, 0)), (Ok(3), Ok(4096)));
         for number in 1..=u8::MAX {
             assert_eq!(block(3, number).unwrap_err().number(), number);
-            assert_eq!(hall(512, number).unwrap_err().number(), number);
+            assert_eq!(hall(4096, number).unwrap_err().number(), number);
         }
     }
 
@@ -158,7 +158,7 @@ mod tests {
         for slot in [4, 5, usize::MAX] {
             assert!(std::panic::catch_unwind(|| block(slot, 0)).is_err(), "slot {slot}");
         }
-        for nodes in [0, 513, usize::MAX] {
+        for nodes in [0, 4097, usize::MAX] {
             assert!(std::panic::catch_unwind(|| hall(nodes, 0)).is_err(), "{nodes} nodes");
         }
         for address in [0, 0b10] {

@@ -4,10 +4,10 @@ use core::error::Error;
 use core::fmt;
 
 /// The most nodes of a plan, the root counted.
-pub const PLAN_NODES: usize = 512;
+pub const PLAN_NODES: usize = 4096;
 
 /// The most bytes of a plan's text.
-pub const PLAN_BYTES: usize = 4096;
+pub const PLAN_BYTES: usize = 32_768;
 
 /// Why a plan was refused: by which refusal, and with 13 also where its text stops being a plan.
 #[derive(Clone, Copy, Debug, PartialEq, Eq, Hash)]

@@ -50,7 +50,7 @@ fn the_example() {
 #[test]
 fn every_node_has_a_title_and_its_address() {
     let [broad, deep] = broad_and_deep();
-    for (plan, count) in [("R()", 1), (&most(), 512), (&broad, 125), (&deep, 125)] {
+    for (plan, count) in [("R()", 1), (&most(), 4096), (&broad, 125), (&deep, 125)] {
         let picture = xml::read(&drawn(plan));
         let listed = answer(&["plan", "-"], plan);
         let addresses: Vec<&str> = text(&listed.stdout).lines().skip(1).map(|line| line.split(' ').next().unwrap()).collect();
@@ -97,6 +97,35 @@ fn no_text_meets_another_or_the_edge() {
                 assert!(right <= other_left || other_right <= left, "texts meet at {left}, {y} in the picture of {plan}");
             }
         }
+    }
+}
+
+/// The lines down a picture, by their column and their ends: those of the levels, and those of the links, which turn off.
+fn lines_down(picture: &Element) -> [Vec<(usize, usize, usize)>; 2] {
+    let mut lines = [Vec::new(), Vec::new()];
+    for path in picture.named("path") {
+        let whole = path.attribute("d").unwrap();
+        let (line, turn) = whole.split_once('q').unwrap_or((whole, ""));
+        if let [x, top, bottom] = line[1..].split([' ', 'V']).map(|number| number.parse().ok()).collect::<Vec<_>>()[..] {
+            lines[usize::from(!turn.is_empty())].push((x.unwrap(), top.unwrap(), bottom.unwrap()));
+        }
+    }
+    lines
+}
+
+/// So a browser draws each once, and of the tallest picture no more than it shows.
+#[test]
+fn no_line_lies_on_another() {
+    let [broad, deep] = broad_and_deep();
+    for (plan, count, levels, blocks) in [("R()", 1, 1, 1), (&most(), 4096, 4, 128), (&broad, 125, 2, 4), (&deep, 125, 63, 4)] {
+        let [mut of_levels, mut links] = lines_down(&xml::read(&drawn(plan)));
+        assert_eq!((of_levels.len(), links.len()), (levels * blocks, count - 1), "in the picture of {plan}");
+        for lines in [&mut of_levels, &mut links] {
+            lines.sort();
+            let meet = lines.windows(2).any(|pair| pair[0].0 == pair[1].0 && pair[0].2 > pair[1].1);
+            assert!(!meet, "a line lies on another in the picture of {plan}");
+        }
+        assert!(of_levels.iter().all(|(_, top, bottom)| bottom - top <= 660), "a level's line is long in the picture of {plan}");
     }
 }
 

@@ -62,10 +62,19 @@ fn right_again(slot: &mut [u8]) {
     slot[509..511].copy_from_slice(&crc);
 }
 
-/// 511 addresses: 63 routers and 63 hosts of the root, 62 and 62 of node 10, and so on.
-fn most() -> Vec<u64> {
-    let children = |at: u32, host: u64| (0..63 - at).map(move |index| ((((1u64 << at) + 1) << index) - 1) << 1 | host);
-    (0..5).flat_map(|at| children(at, 0).chain(children(at, 1))).take(511).collect()
+/// So many addresses: 63 routers and 63 hosts of the root, 62 and 62 of node 10, and so on to the longest; then those of node 110, of 1100 and so
+/// on, and those of 1110.
+fn first(count: usize) -> Vec<u64> {
+    let parents = [0b1u64, 0b110, 0b1110].into_iter().flat_map(|first| (0..first.leading_zeros()).map(move |zeros| first << zeros));
+    let children = |parent: u64, host: u64| (0..parent.leading_zeros()).map(move |index| (((parent + 1) << index) - 1) << 1 | host);
+    parents.flat_map(|parent| children(parent, 0).chain(children(parent, 1))).take(count).collect()
+}
+
+/// The addresses of a hall of 4,096 nodes, and the next child that would be one more.
+fn most() -> (Vec<u64>, u64) {
+    let mut most = first(4096);
+    let next = most.pop().unwrap();
+    (most, next)
 }
 
 #[test]
@@ -125,16 +134,44 @@ fn says_which_address_is_at_fault() {
     refused("1110", "address 1 of the block, 1110: the next router of 1 is 110");
     refused("1011", "address 1 of the block, 1011: the next host of 10 is 101");
     refuses(&format!("append @{}", " 110".repeat(64)), &hall, "", &format!("{REFUSED_12}\n64 addresses"));
-    let full = file("full.journal", &journal(&most().chunks(63).collect::<Vec<_>>(), 1));
+    let (most, next) = most();
+    let full = file("full.journal", &journal(&most.chunks(63).collect::<Vec<_>>(), 1));
     says("check @", &full, &checked_full());
-    let next = format!("{:b}", most()[510] * 2 + 2);
-    refuses(&format!("append @ {next}"), &full, "", &format!("{REFUSED_14}\naddress 1 of the block, {next}: it would be node 513"));
+    let why = format!("address 1 of the block, {next:b}: it would be node 4097");
+    refuses(&format!("append @ {next:b}"), &full, "", &format!("{REFUSED_14}\n{why}"));
+}
+
+fn full_blocks(count: usize) -> String {
+    (0..count).map(|slot| format!("slot {slot}: block of 63, nodes {}\n", 63 * (slot + 1) + 1)).collect()
 }
 
 fn checked_full() -> String {
-    let mut lines: Vec<String> = (0..8).map(|slot| format!("slot {slot}: block of 63, nodes {}\n", 63 * (slot + 1) + 1)).collect();
-    lines.push("slot 8: block of 7, nodes 512\nslot 9: erased\nslots 10 blocks 9 torn 0 erased 1 wrong 0 nodes 512\n".to_string());
-    lines.concat()
+    full_blocks(65) + "slot 65: erased\nslots 66 blocks 65 torn 0 erased 1 wrong 0 nodes 4096\n"
+}
+
+/// The most before request Six, and one more.
+#[test]
+fn a_513th_node() {
+    let addresses = first(512);
+    let hall = file("512.journal", &journal(&addresses[..511].chunks(63).collect::<Vec<_>>(), 1));
+    let blocks = full_blocks(8) + "slot 8: block of 7, nodes 512\n";
+    says("check @", &hall, &format!("{blocks}slot 9: erased\nslots 10 blocks 9 torn 0 erased 1 wrong 0 nodes 512\n"));
+    says(&format!("append @ {:b}", addresses[511]), &hall, "slot 9: block of 1, nodes 513\n");
+}
+
+#[test]
+fn shows_and_draws_as_many_as_a_journal_may_have() {
+    let (most, _) = most();
+    let hall = file("most.journal", &journal(&most.chunks(63).collect::<Vec<_>>(), 63));
+    let shown = asked("show @", &hall);
+    assert_eq!((text(&shown.stderr), shown.status.code()), ("", Some(0)));
+    let lines: Vec<&str> = text(&shown.stdout).lines().collect();
+    assert_eq!((lines[0], lines.len()), ("nodes 4096", 4097));
+    assert_eq!(lines[1], format!("{:64} root   depth 0 parent {:63} routers 63 hosts 63", "1", "none"));
+    assert_eq!(lines[4096], format!("{:64} host   depth 2 parent {:63} routers 0 hosts 0", "11011", "110"));
+    let drawn = asked("draw @", &hall);
+    assert_eq!((text(&drawn.stderr), drawn.status.code()), ("", Some(0)));
+    assert_eq!(text(&drawn.stdout).matches("<g><title>").count(), 4096);
 }
 
 #[test]
@@ -199,19 +236,41 @@ fn says_what_stands_in_the_wrong_place() {
     refuses("append @ 11", &hall, "", &format!("{REFUSED_17}\n{why}"));
 }
 
+/// A block of these addresses, by hand, whatever they are.
+fn put(slot: &mut [u8], addresses: &[u64]) {
+    slot.fill(0);
+    (slot[0], slot[1], slot[511]) = (0x50, addresses.len() as u8, 0xA5);
+    for (octets, address) in slot[2..506].chunks_mut(8).zip(addresses) {
+        octets.copy_from_slice(&address.to_be_bytes());
+    }
+    right_again(slot);
+}
+
 #[test]
 fn a_node_too_many() {
-    let most = most();
+    let (most, next) = most();
     let mut octets = journal(&most.chunks(63).collect::<Vec<_>>(), 1);
-    let next = most[510] * 2 + 2;
-    let slot = &mut octets[9 * SLOT..];
-    slot.fill(0);
-    (slot[0], slot[1], slot[511]) = (0x50, 1, 0xA5);
-    slot[2..10].copy_from_slice(&next.to_be_bytes());
-    right_again(slot);
+    put(&mut octets[65 * SLOT..], &[next]);
     let hall = file("too-many.journal", &octets);
-    let why = format!("slot 9: address 1 of the block, {next:b}: it would be node 513");
+    let why = format!("slot 65: address 1 of the block, {next:b}: it would be node 4097");
     refuses("show @", &hall, "", &format!("{REFUSED_14}\n{why}"));
+}
+
+/// 128 slots hold 8,064 addresses, which are more than a hall may have.
+#[test]
+fn full_blocks_in_every_slot() {
+    let (addresses, (_, next)) = (first(128 * 63), most());
+    assert_eq!(addresses.len(), 8064);
+    let mut octets = vec![0xFF; 128 * SLOT];
+    for (slot, block) in octets.chunks_mut(SLOT).zip(addresses.chunks(63)) {
+        put(slot, block);
+    }
+    let hall = file("full-blocks.journal", &octets);
+    let why = format!("address 1 of the block, {next:b}: it would be node 4097");
+    let behind: String = (66..128).map(|slot| format!("slot {slot}: block of 63, not judged\n")).collect();
+    let out = full_blocks(65) + &format!("slot 65: refused 14: {why}\n{behind}slots 128 blocks 128 torn 0 erased 0 wrong 0\n");
+    refuses("check @", &hall, &out, &format!("{REFUSED_14}\nslot 65: {why}"));
+    refuses("append @ 10", &hall, "", &format!("{REFUSED_14}\nslot 65: {why}"));
 }
 
 #[test]

@@ -25,10 +25,15 @@ fn faulty(plan: &[u8], expected: &str) {
     assert_eq!(refused(plan), format!("{REFUSED_13}\n{expected}\n"), "for {plan:?}");
 }
 
-/// A plan of 512 nodes: a root with 7 routers, each with 8 routers of 8 hosts.
+/// A root with so many routers, each with as many routers with as many hosts as the second number says.
+fn three_levels(routers: usize, each: usize) -> String {
+    let inner = format!("R({})", "H".repeat(each)).repeat(each);
+    format!("R({})", format!("R({inner})").repeat(routers))
+}
+
+/// A plan of 4,096 nodes: a root with 15 routers, each with 16 routers of 16 hosts.
 pub fn most() -> String {
-    let inner = format!("R({})", "R(HHHHHHHH)".repeat(8));
-    format!("R({})", inner.repeat(7))
+    three_levels(15, 16)
 }
 
 #[test]
@@ -45,16 +50,23 @@ fn lists_the_nodes() {
 fn lists_as_many_as_a_plan_may_have() {
     let list = listed(most().as_bytes());
     let lines: Vec<&str> = list.lines().collect();
-    assert_eq!((lines[0], lines.len()), ("nodes 512", 513));
-    assert_eq!(lines[512], format!("{} host   depth 3", "1".to_owned() + "1111110" + "11111110" + "11111111"));
-    assert!(lines[1..].iter().all(|line| line.len() == lines[512].len()), "the columns are not aligned:\n{list}");
+    assert_eq!((lines[0], lines.len()), ("nodes 4096", 4097));
+    let last = ["1", "111111111111110", "1111111111111110", "1111111111111111"].concat();
+    assert_eq!(lines[4096], format!("{last} host   depth 3"));
+    assert!(lines[1..].iter().all(|line| line.len() == lines[4096].len()), "the columns are not aligned:\n{list}");
+    // the most before request Six, and one more
+    let before = three_levels(7, 8);
+    let list = listed(before.as_bytes());
+    assert!(list.starts_with("nodes 512\n") && list.ends_with("\n111111101111111011111111 host   depth 3\n"), "{list}");
+    let more = before.replacen("R(R(", "R(HR(", 1);
+    assert!(listed(more.as_bytes()).starts_with("nodes 513\n"));
     let deepest = listed(["R(".repeat(64), ")".repeat(64)].concat().as_bytes());
     assert_eq!(deepest.lines().last(), Some(format!("1{} router depth 63", "0".repeat(63)).as_str()));
 }
 
 #[test]
 fn each_refusal() {
-    assert_eq!(refused(&[b'x'; 4097]), format!("{REFUSED_14}\n"));
+    assert_eq!(refused(&[b'x'; 32_769]), format!("{REFUSED_14}\n"));
     assert_eq!(refused(most().replacen("R(R(", "R(HR(", 1).as_bytes()), format!("{REFUSED_14}\n"));
     assert_eq!(refused(format!("R({})", "H".repeat(64)).as_bytes()), format!("{REFUSED_3}\n"));
     faulty(b"R(R(H)h)", "at place 6, found 'h'\nR(R(H)h)\n      ^");
@@ -86,7 +98,7 @@ fn bytes_without_a_sign_take_a_column_each() {
 /// A text of any length with one wrong byte: what is shown of it fits on a line, and the mark is under that byte.
 #[test]
 fn the_mark_is_under_the_place() {
-    for length in [20, 75, 76, 77, 78, 79, 200, 4096] {
+    for length in [20, 75, 76, 77, 78, 79, 200, 32_768] {
         for place in (2..length).filter(|place| *place < 90 || length - place < 90) {
             let mut plan = format!("R({}", "H".repeat(length - 2)).into_bytes();
             plan[place] = b'x';
@@ -98,8 +110,8 @@ fn the_mark_is_under_the_place() {
             assert_eq!(shown.contains(".."), length > 76, "{said}");
         }
     }
-    let long = format!("R({}", "H".repeat(4094));
-    faulty(long.as_bytes(), &format!("at place 4096, where it ends\n..{}\n{}^", "H".repeat(74), " ".repeat(76)));
+    let long = format!("R({}", "H".repeat(32_766));
+    faulty(long.as_bytes(), &format!("at place 32768, where it ends\n..{}\n{}^", "H".repeat(74), " ".repeat(76)));
 }
 
 /// No more is read than shows that there is too much.
@@ -112,15 +124,15 @@ fn a_file_without_end() {
     }
 }
 
-/// A file of 4,096 bytes with a newline behind them is judged as its text, and one byte more is too much, whatever it is.
+/// A file of 32,768 bytes with a newline behind them is judged as its text, and one byte more is too much, whatever it is.
 #[test]
 fn files_about_the_limit() {
     let nonsense = |count| vec![b'x'; count];
-    let judged = refused(&nonsense(4096));
+    let judged = refused(&nonsense(32_768));
     assert!(judged.starts_with(REFUSED_13), "{judged}");
-    assert_eq!(refused(&[nonsense(4096), b"\n".to_vec()].concat()), judged);
+    assert_eq!(refused(&[nonsense(32_768), b"\n".to_vec()].concat()), judged);
     for behind in [b"x".to_vec(), b"\n\n".to_vec(), b"x\n".to_vec(), b"x\nx".to_vec(), b"\nx\n".to_vec()] {
-        assert_eq!(refused(&[nonsense(4096), behind].concat()), format!("{REFUSED_14}\n"));
+        assert_eq!(refused(&[nonsense(32_768), behind].concat()), format!("{REFUSED_14}\n"));
     }
 }
 

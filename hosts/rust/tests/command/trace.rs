@@ -388,8 +388,8 @@ send 10 to 1110: 10 1 refused 7, 1 hop
 }
 
 #[test]
-fn a_plan_of_512_nodes_for_a_start() {
-    let plan = file("512.plan", most());
+fn a_plan_of_4096_nodes_for_a_start() {
+    let plan = file("4096.plan", most());
     let got = answer(&["trace".as_ref(), "--plan".as_ref(), plan.as_os_str()], "tree\n");
     let listed = answer(&["plan".as_ref(), plan.as_os_str()], "");
     let addresses = |shown: &str| -> Vec<String> {
@@ -398,7 +398,7 @@ fn a_plan_of_512_nodes_for_a_start() {
         addresses
     };
     assert_eq!(addresses(text(&got.stdout)), addresses(text(&listed.stdout)));
-    assert_eq!(addresses(text(&got.stdout)).len(), 512);
+    assert_eq!(addresses(text(&got.stdout)).len(), 4096);
 }
 
 #[test]

@@ -1,4 +1,5 @@
-//! A journal by the sentences of request Four: "Outlive a power cut."
+//! A journal by the sentences of request Four: "Outlive a power cut."; and with the limits of request Six: "a recovered journal may now have 4,096
+//! nodes, the root counted .. Recovery wants 4,096 words lent."
 use super::{bits, fresh, is_host, parent};
 use pasa::sys::{Block, Node, Record, Recovered};
 
@@ -71,7 +72,7 @@ pub enum Fault {
     Form,
     /// "whose addresses each are the next child of a node already known .. otherwise 17"
     NoNextChild,
-    /// "a 513th node, the root counted, is 14"
+    /// "a 513th node, the root counted, is 14": a 4,097th since request Six
     TooMany,
 }
 
@@ -112,10 +113,11 @@ impl Hall {
         None
     }
 
-    /// "each are the next child of a node already known"; "a 513th node, the root counted, is 14, but 17 if it is no next child"
+    /// "each are the next child of a node already known"; "a 513th node, the root counted, is 14, but 17 if it is no next child": a 4,097th since
+    /// request Six
     fn take(&mut self, address: u64) -> Result<(), Fault> {
         let (of, host) = self.next_child_of(address).ok_or(Fault::NoNextChild)?;
-        if self.addresses.len() == 512 {
+        if self.addresses.len() == 4096 {
             return Err(Fault::TooMany);
         }
         let place = self.nodes.len();
@@ -168,13 +170,13 @@ fn is_length(bytes: usize) -> bool {
 }
 
 /// "Recovery first checks the length (12), then that at least 512 words are lent (10) .. Success returns the number of nodes and leaves root and
-/// addresses in order, then zeros to the list's end. Recovery's 14 and 17 leave the list all zeros".
+/// addresses in order, then zeros to the list's end. Recovery's 14 and 17 leave the list all zeros". The words are 4,096 since request Six.
 pub fn recover(journal: &[u8], words: &mut [u64]) -> Recovered {
     let refused = |refusal| Recovered { nodes: 0, refusal };
     if !is_length(journal.len()) {
         return refused(12);
     }
-    if words.len() < 512 {
+    if words.len() < 4096 {
         return refused(10);
     }
     words.fill(0);

@@ -1,4 +1,5 @@
-//! A hall plan by the sentences of request One: "Our planners write a hall as text".
+//! A hall plan by the sentences of request One: "Our planners write a hall as text"; and with the limits of request Six: "A plan .. may now have
+//! 4,096 nodes, the root counted, and a plan 32,768 bytes."
 use super::{number, step_bits, Bits, Kind};
 use pasa::sys::Plan;
 
@@ -99,20 +100,25 @@ fn addresses(text: &[u8]) -> Vec<Bits> {
     given
 }
 
+/// Each R and each H of a text in the grammar is one.
+fn nodes(text: &[u8]) -> usize {
+    text.iter().filter(|byte| b"RH".contains(byte)).count()
+}
+
 /// "Text over 4,096 bytes: 14. Then a text outside the grammar ..: 13 .. Then over 512 nodes, the root counted: 14. Then an address too long: 3.
-/// Then no room: 10."
+/// Then no room: 10." Of the numbers, 32,768 and 4,096 since request Six.
 pub fn read(text: &[u8], words: &mut [u64]) -> Plan {
     let refused = |refusal, place| Plan { nodes: 0, place, refusal };
-    if text.len() > 4096 {
+    if text.len() > 32_768 {
         return refused(14, 0);
     }
     if !in_grammar(text) {
         return refused(13, fault(text));
     }
-    let addresses = addresses(text);
-    if addresses.len() > 512 {
+    if nodes(text) > 4096 {
         return refused(14, 0);
     }
+    let addresses = addresses(text);
     if addresses.iter().any(|bits| bits.len() > 64) {
         return refused(3, 0);
     }

@@ -1,29 +1,41 @@
 //! The journal beside the specification: every length at which a block can be cut off, and random journals, right and damaged, about every limit.
 //! Each is recovered from, written to, and asked for a record.
-use crate::document::journal::{self, Fault};
+use crate::document::{
+    self,
+    journal::{self, Fault},
+};
 use crate::{Random, Seen, MILLION};
 use pasa::sys;
 
-/// The room for words, more than a hall has nodes.
-const ROOM: usize = 600;
+/// The words that recovery wants, which are the most nodes of a hall too; and the room for words, more than that.
+const NODES: usize = 4096;
+const ROOM: usize = NODES + 88;
 
-/// How often each refusal was the answer of recovery and of the writer, and how often each fault was the first.
+/// The numbers of nodes about the limit, as it was before request Six and as it is.
+const ABOUT: [usize; 5] = [511, 512, 513, 4095, 4096];
+
+/// How often each refusal was the answer of recovery and of the writer, and how often each fault was the first; how many halls were recovered with
+/// each number of nodes about the limit; and how many records were not found and found.
 #[derive(Default)]
 struct Met {
     recovered: Seen,
     written: Seen,
     faults: [usize; 4],
+    about: [usize; 5],
     records: [usize; 2],
+}
+
+fn add<const N: usize>(one: [usize; N], other: [usize; N]) -> [usize; N] {
+    std::array::from_fn(|at| one[at] + other[at])
 }
 
 impl Met {
     fn and(self, other: Met) -> Met {
-        let add = |[a, b]: [usize; 2], [c, d]: [usize; 2]| [a + c, b + d];
-        let [[a, b], [c, d]] = [[0, 1], [2, 3]].map(|at| at.map(|at: usize| self.faults[at] + other.faults[at]));
         Met {
             recovered: self.recovered.and(other.recovered),
             written: self.written.and(other.written),
-            faults: [a, b, c, d],
+            faults: add(self.faults, other.faults),
+            about: add(self.about, other.about),
             records: add(self.records, other.records),
         }
     }
@@ -126,15 +138,39 @@ impl Random {
         journal
     }
 
-    /// A right journal: small, with about as many nodes as there may be, or with about as many slots.
+    /// A right journal: small, with about as many nodes as there may be, or more, or with about as many slots.
     fn right_journal(&mut self) -> Made {
         let mut hall = Growing::new();
-        let mut journal = match self.below(640) {
-            0..=3 => self.journal_of(8, &mut hall, |_| 63),
-            4 => self.journal_of(100, &mut hall, |random| 4 + random.below(3)),
-            5 => {
+        let journal = match self.below(5120) {
+            0..=15 => {
+                let journal = self.journal_of(8, &mut hall, |_| 63);
+                let nodes = 511 + self.below(5);
+                self.up_to(nodes, journal, &mut hall)
+            }
+            16..=19 => {
+                let journal = self.journal_of(100, &mut hall, |random| 4 + random.below(2));
+                let nodes = 511 + self.below(5);
+                self.up_to(nodes, journal, &mut hall)
+            }
+            20..=27 => {
                 let mut journal = self.journal_of(120, &mut hall, |_| 1);
                 journal.truncate(512 * (126 + self.below(4)));
+                journal
+            }
+            28..=39 => {
+                let journal = self.journal_of(64, &mut hall, |_| 63);
+                let nodes = self.about_most_nodes();
+                self.up_to(nodes, journal, &mut hall)
+            }
+            40..=43 => {
+                let journal = self.journal_of(100, &mut hall, |random| 39 + random.below(3));
+                let nodes = self.about_most_nodes();
+                self.up_to(nodes, journal, &mut hall)
+            }
+            // as many full blocks as there are slots
+            44..=45 => {
+                let mut journal = self.journal_of(120, &mut hall, |_| 63);
+                journal.truncate(512 * 128);
                 journal
             }
             _ => {
@@ -142,17 +178,27 @@ impl Random {
                 self.journal_of(blocks, &mut hall, Random::count)
             }
         };
-        // one block more makes it 511 to 515 nodes
-        if (460..512).contains(&hall.nodes.len()) {
-            let more = (511 + self.below(5)).saturating_sub(hall.nodes.len()).clamp(1, 63);
-            let block = journal::block(&hall.give_many(self, more));
-            let end = journal.chunks(512).position(|slot| slot == ERASED).unwrap_or(journal.len() / 512);
-            journal.truncate(512 * end);
-            journal.extend(block);
-            journal.extend(ERASED);
-        }
         let block = self.block(&mut hall);
         Made { journal, hall, block }
+    }
+
+    /// One fewer than the most nodes, as many, or more: one too many as often as not.
+    fn about_most_nodes(&mut self) -> usize {
+        NODES + [0, 1, 2, 2, 2, 2, 3, 4][self.below(8)] - 1
+    }
+
+    /// A journal with more blocks behind its own, till it has so many nodes, and mostly an erased slot behind them.
+    fn up_to(&mut self, nodes: usize, mut journal: Vec<u8>, hall: &mut Growing) -> Vec<u8> {
+        let end = journal.chunks(512).position(|slot| slot == ERASED).unwrap_or(journal.len() / 512);
+        journal.truncate(512 * end);
+        while hall.nodes.len() < nodes {
+            let more = (nodes - hall.nodes.len()).min(63);
+            journal.extend(journal::block(&hall.give_many(self, more)));
+        }
+        if self.below(4) > 0 {
+            journal.extend(ERASED);
+        }
+        journal
     }
 
     /// A block for a hall: mostly right.
@@ -180,6 +226,15 @@ impl Random {
             4 => self.number(),
             _ => self.beside(address),
         }
+    }
+
+    /// Another address in the place of one of the last block's.
+    fn damage_last(&mut self, Made { journal, hall, .. }: &mut Made) {
+        let slot = journal.chunks_mut(512).rfind(|slot| slot[511] == 0xA5).expect("a journal with blocks");
+        let at = 2 + 8 * self.below(usize::from(slot[1]));
+        let address = u64::from_be_bytes(slot[at..at + 8].try_into().unwrap());
+        slot[at..at + 8].copy_from_slice(&self.wrong_address(address, hall).to_be_bytes());
+        right_again(slot);
     }
 
     /// The journal damaged by a bit, a byte, a slot or slots that are moved; as often as not as it is.
@@ -251,6 +306,9 @@ fn recover(journal: &[u8], words: &[u64; ROOM], room: usize, met: &mut Met) -> [
     assert!(got_words == expected_words, "recovering into {room} words: {}: {got_words:x?}", shown(journal));
     assert!(journal == before, "recovery changes the journal {}", shown(journal));
     met.recovered.add(got.refusal);
+    if let Some(at) = ABOUT.iter().position(|nodes| *nodes == got.nodes) {
+        met.about[at] += 1;
+    }
     if matches!(got.refusal, 14 | 17) {
         let fault = journal::fault(journal).unwrap();
         met.faults[[Fault::Place, Fault::Form, Fault::NoNextChild, Fault::TooMany].iter().position(|other| *other == fault).unwrap()] += 1;
@@ -296,7 +354,7 @@ fn every_cut() -> Met {
         before.truncate(512 * end);
         before.extend(ERASED.repeat(1 + random.below(2)));
         let whole = journal::block(&block);
-        let (words, room) = (lent(&hall), 512 + random.below(3));
+        let (words, room) = (lent(&hall), NODES + random.below(3));
         for cut in 0..=512 {
             let mut journal = before.clone();
             journal[512 * end..512 * end + cut].copy_from_slice(&whole[..cut]);
@@ -316,17 +374,28 @@ fn random_journals(seed: u64, count: usize) -> Met {
     let random = &mut Random(seed);
     for _ in 0..count {
         let mut made = random.right_journal();
-        random.damage(&mut made);
+        // a large hall takes its time, so fewer of them are damaged, and as often in the last block as anywhere
+        let is_large = made.hall.nodes.len() >= NODES - 1;
+        match if is_large { random.below(8) } else { 0 } {
+            0 => random.damage(&mut made),
+            1 => random.damage_last(&mut made),
+            _ => (),
+        }
         let room = match random.below(32) {
-            0 => random.below(512),
-            1 => 511,
+            0 => random.below(NODES),
+            1 => NODES - 1,
             2 => ROOM,
-            _ => 512,
+            _ => NODES,
         };
         let words = recover(&made.journal, &lent(&made.hall), room, &mut met);
         write(&made.journal, &made.block, &mut met);
-        let address = if random.below(4) == 0 { random.number() } else { words[random.below(24)] };
-        record(&words[..24], address, &mut met);
+        let among = if is_large { NODES } else { 24 };
+        let address = match random.below(4) {
+            0 => random.number(),
+            1 if is_large => document::parent(&document::bits(words[NODES - 1])),
+            _ => words[random.below(among)],
+        };
+        record(&words[..among], address, &mut met);
     }
     met
 }
@@ -342,7 +411,11 @@ fn journals() {
     for (what, times) in ["a slot out of place", "no right block", "no next child", "a node too many"].iter().zip(met.faults) {
         assert!(times >= 1000, "{what} was the first fault {times} times: the journals are too much alike");
     }
-    println!("first faults {:?}, records not found and found {:?}", met.faults, met.records);
+    for (nodes, times) in ABOUT.iter().zip(met.about) {
+        assert!(times >= 100, "halls of {nodes} nodes were recovered {times} times: the journals are too much alike");
+    }
+    println!("first faults {:?}, halls of {ABOUT:?} nodes {:?}", met.faults, met.about);
+    println!("records not found and found {:?}", met.records);
 }
 
 /// Of any words: zeros, repeats and numbers that belong to no hall among them.

@@ -10,20 +10,58 @@ const LETTERS: [u8; 5] = *b"RH()x";
 const ALIKE: [u8; 12] = *b"\n\r \0rh[]SI\xD2\xC8";
 
 /// The room for words, more than any plan has nodes; and what they hold before.
-const WORDS: [u64; 520] = [0x5555_5555_5555_5555; 520];
+const WORDS: [u64; 4104] = [0x5555_5555_5555_5555; 4104];
 
-/// How often each refusal was the answer, and how often 14 was for bytes and how often for nodes.
+/// Both sides of each limit, as it was before request Six and as it is.
+const ABOUT_NODES: [usize; 6] = [511, 512, 513, 4095, 4096, 4097];
+const ABOUT_BYTES: [usize; 6] = [4095, 4096, 4097, 32_767, 32_768, 32_769];
+
+/// How often each refusal was the answer, and how often 14 was for bytes and how often for nodes. Of the plans that were read or refused with 14 for
+/// their nodes, how many had each number of nodes about a limit; and how many texts had each number of bytes about one.
 #[derive(Default)]
 struct Met {
     seen: Seen,
     bytes: usize,
     nodes: usize,
+    about_nodes: [usize; 6],
+    about_bytes: [usize; 6],
+}
+
+/// One more of this number, if it is among those that are counted.
+fn count(number: usize, about: &[usize; 6], times: &mut [usize; 6]) {
+    if let Some(at) = about.iter().position(|other| *other == number) {
+        times[at] += 1;
+    }
 }
 
 impl Met {
     fn and(self, other: Met) -> Met {
-        Met { seen: self.seen.and(other.seen), bytes: self.bytes + other.bytes, nodes: self.nodes + other.nodes }
+        let add = |one: [usize; 6], other: [usize; 6]| std::array::from_fn(|at| one[at] + other[at]);
+        Met {
+            seen: self.seen.and(other.seen),
+            bytes: self.bytes + other.bytes,
+            nodes: self.nodes + other.nodes,
+            about_nodes: add(self.about_nodes, other.about_nodes),
+            about_bytes: add(self.about_bytes, other.about_bytes),
+        }
     }
+
+    /// A text of so many bytes and, if it is a plan, so many nodes has got this refusal.
+    fn add(&mut self, refusal: u8, bytes: usize, nodes: usize) {
+        self.seen.add(refusal);
+        let for_bytes = refusal == 14 && bytes > 32_768;
+        let for_nodes = refusal == 14 && !for_bytes;
+        self.bytes += usize::from(for_bytes);
+        self.nodes += usize::from(for_nodes);
+        count(bytes, &ABOUT_BYTES, &mut self.about_bytes);
+        if refusal == 0 || for_nodes {
+            count(nodes, &ABOUT_NODES, &mut self.about_nodes);
+        }
+    }
+}
+
+fn nodes(text: &[u8]) -> usize {
+    text.iter().filter(|byte| b"RH".contains(byte)).count()
 }
 
 fn shown(text: &[u8]) -> String {
@@ -36,16 +74,12 @@ fn read(text: &[u8], room: usize, met: &mut Met) {
     let expected = plan::read(text, &mut expected_words[..room]);
     assert_eq!(got, expected, "reading {} into {room} words", shown(text));
     assert!(got_words == expected_words, "reading {} into {room} words: {got_words:x?}", shown(text));
-    met.seen.add(got.refusal);
-    if got.refusal == 14 {
-        *(if text.len() > 4096 { &mut met.bytes } else { &mut met.nodes }) += 1;
-    }
+    met.add(got.refusal, text.len(), nodes(text));
 }
 
 /// Every text of so many bytes or fewer over the letters, that begins with this one. The room goes from none to one more than there are nodes.
 fn every(text: &mut Vec<u8>, more: usize, met: &mut Met) {
-    let nodes = text.iter().filter(|byte| b"RH".contains(byte)).count();
-    read(text, (nodes + 1).saturating_sub(text.len() % 3), met);
+    read(text, (nodes(text) + 1).saturating_sub(text.len() % 3), met);
     if more > 0 {
         for letter in LETTERS {
             text.push(letter);
@@ -68,9 +102,9 @@ impl Random {
         (number + self.below(5)).saturating_sub(2)
     }
 
-    /// A number that is small as often as it is large, at most about 1,000.
+    /// A number that is small as often as it is large, at most about 4,000.
     fn spread(&mut self) -> usize {
-        let bits = self.below(10);
+        let bits = self.below(12);
         self.below(2 << bits)
     }
 
@@ -131,9 +165,9 @@ impl Random {
         text
     }
 
-    /// A text of about 4,096 bytes, closed or not: no right text of that length has few enough nodes.
-    fn long(&mut self) -> Vec<u8> {
-        let length = self.about(4096);
+    /// A text of about so many bytes, closed or not. With 32,768 no right text has few enough nodes.
+    fn long(&mut self, bytes: usize) -> Vec<u8> {
+        let length = self.about(bytes);
         let item: &[u8] = [b"H".as_slice(), b"R()", b"R(H)", b"R(", b"x"][self.below(5)];
         let mut text = b"R(".to_vec();
         while text.len() + item.len() < length {
@@ -146,15 +180,20 @@ impl Random {
     /// A right plan, or one about a limit.
     fn plan(&mut self) -> Vec<u8> {
         let size = self.spread();
-        match self.below(256) {
-            0 | 1 => self.long(),
-            2 | 3 => {
+        match self.below(512) {
+            0..=3 => self.long(32_768),
+            4 => self.long(4096),
+            5..=9 => {
+                let nodes = self.about(4096);
+                self.hung(nodes)
+            }
+            10..=11 => {
                 let nodes = self.about(512);
                 self.hung(nodes)
             }
-            4..=15 => self.wide(),
-            16..=31 => self.chain(),
-            32..=39 => self.hung(size),
+            12..=31 => self.wide(),
+            32..=63 => self.chain(),
+            64..=79 => self.hung(size),
             _ => self.hung(size % 24),
         }
     }
@@ -184,13 +223,12 @@ impl Random {
 
     /// Room for the nodes of a text and none to spare, or about that, or for any number of words.
     fn room(&mut self, text: &[u8]) -> usize {
-        let nodes = text.iter().filter(|byte| b"RH".contains(byte)).count();
         let room = match self.below(8) {
             0 => self.below(WORDS.len() + 1),
             1 => 0,
             2 => WORDS.len(),
-            3..=5 => self.about(nodes),
-            _ => nodes,
+            3..=5 => self.about(nodes(text)),
+            _ => nodes(text),
         };
         room.min(WORDS.len())
     }
@@ -229,6 +267,12 @@ fn plans() {
     met.seen.often(&[0, 3, 10, 13, 14]);
     for (what, times) in [("bytes", met.bytes), ("nodes", met.nodes)] {
         assert!(times >= 1000, "refusal 14 for {what} was the answer {times} times: the inputs are too much alike");
+    }
+    for (what, about, times) in [("nodes", ABOUT_NODES, met.about_nodes), ("bytes", ABOUT_BYTES, met.about_bytes)] {
+        for (number, times) in about.iter().zip(times) {
+            assert!(times >= 100, "{number} {what} were met {times} times: the inputs are too much alike");
+        }
+        println!("{what} {about:?} met {times:?} times");
     }
     println!("refusal 14 for bytes {}, for nodes {}", met.bytes, met.nodes);
 }

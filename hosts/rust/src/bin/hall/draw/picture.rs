@@ -80,24 +80,30 @@ fn legend(out: &mut dyn Write) -> io::Result<()> {
     writeln!(out, "</g>")
 }
 
-/// A line down the picture for each level.
+/// A line down the picture for each level, in a piece for each block of rows: on paper each page has the pieces that it shows, and not the dashes of
+/// all pages.
 fn levels(nodes: &[Address], out: &mut dyn Write) -> io::Result<()> {
-    let (top, bottom) = (layout::ruler_y(0), layout::bottom(nodes.len()));
+    let (blocks, deepest) = (nodes.len().div_ceil(BLOCK), deepest(nodes));
     writeln!(out, r#"<g stroke="{LEVEL}" stroke-dasharray="2 3">"#)?;
-    for depth in 0..=deepest(nodes) {
-        let x = layout::x(depth);
-        writeln!(out, r#"<path d="M{x} {top}V{bottom}"/>"#)?;
+    for block in 0..blocks {
+        let is_last = block + 1 == blocks;
+        let (top, bottom) = (layout::ruler_y(block), if is_last { layout::bottom(nodes.len()) } else { layout::ruler_y(block + 1) });
+        for depth in 0..=deepest {
+            let x = layout::x(depth);
+            writeln!(out, r#"<path d="M{x} {top}V{bottom}"/>"#)?;
+        }
     }
     writeln!(out, "</g>")
 }
 
 /// The number of each level on its line, before every block of rows, on a ground that keeps it free of the lines.
 fn rulers(nodes: &[Address], out: &mut dyn Write) -> io::Result<()> {
+    let deepest = deepest(nodes);
     writeln!(out, r#"<g font-family="sans-serif" font-size="11" fill="{PALE}" text-anchor="middle">"#)?;
     for block in 0..nodes.len().div_ceil(BLOCK) {
         let y = layout::ruler_y(block);
         writeln!(out, r#"<text x="{MARGIN}" y="{}" text-anchor="start">depth</text>"#, y + BASELINE)?;
-        for depth in 0..=deepest(nodes) {
+        for depth in 0..=deepest {
             let x = layout::x(depth);
             write!(out, r#"<rect x="{}" y="{}" width="18" height="14" fill="{GROUND}"/>"#, x - 9, y - 7)?;
             writeln!(out, r#"<text x="{x}" y="{}">{depth}</text>"#, y + BASELINE)?;
@@ -106,15 +112,18 @@ fn rulers(nodes: &[Address], out: &mut dyn Write) -> io::Result<()> {
     writeln!(out, "</g>")
 }
 
-/// From each node's parent down its column and then to the right.
+/// From each node's parent down its column and then to the right. A link begins where the one to the child before it turns off: so no line lies on
+/// another one, which a browser would draw as often as a node has children.
 fn links(nodes: &[Address], out: &mut dyn Write) -> io::Result<()> {
-    let rows: HashMap<Address, usize> = nodes.iter().enumerate().map(|(row, address)| (*address, row)).collect();
+    let mut ends: HashMap<Address, usize> = HashMap::new();
     writeln!(out, r#"<g stroke="{LINK}" stroke-width="2" fill="none">"#)?;
     for (row, address) in nodes.iter().enumerate() {
+        let y = layout::y(row);
+        ends.insert(*address, y);
         if let Some(parent) = address.parent() {
-            let (x, y) = (layout::x(parent.depth() as usize), layout::y(rows[&parent]));
-            let (to_x, to_y) = (layout::x(address.depth() as usize), layout::y(row));
-            writeln!(out, r#"<path d="M{x} {y}V{}q0 {TURN} {TURN} {TURN}H{to_x}"/>"#, to_y - TURN)?;
+            let (x, to_x, turn) = (layout::x(parent.depth() as usize), layout::x(address.depth() as usize), y - TURN);
+            let from = ends.insert(parent, turn).expect("each node is behind its parent");
+            writeln!(out, r#"<path d="M{x} {from}V{turn}q0 {TURN} {TURN} {TURN}H{to_x}"/>"#)?;
         }
     }
     writeln!(out, "</g>")

@@ -111,6 +111,18 @@ impl Judged {
     pub fn summary(&self) -> String {
         self.summary.to_string()
     }
+
+    /// The failure that shows the first fault of a journal that is refused so.
+    fn failure(self, refusal: Refusal) -> Failure {
+        match self.fault {
+            Some((refusal, shown)) => Failure::Fault { refusal, shown },
+            None => Failure::Refused(refusal),
+        }
+    }
+}
+
+fn wrong_length(journal: &[u8]) -> Failure {
+    Failure::Fault { refusal: Refusal::WrongLength, shown: file::length(journal) }
 }
 
 /// The nodes of a journal, or the failure that shows its first fault.
@@ -118,23 +130,21 @@ pub fn nodes(journal: &[u8]) -> Result<Vec<u64>, Failure> {
     let mut words = [0; NODES];
     match pasa::recover_journal(journal, &mut words) {
         Ok(nodes) => Ok(words[..nodes].to_vec()),
-        Err(Refusal::WrongLength) => Err(Failure::Fault { refusal: Refusal::WrongLength, shown: file::length(journal) }),
-        Err(refusal) => match judge(journal).fault {
-            Some((refusal, shown)) => Err(Failure::Fault { refusal, shown }),
-            None => Err(Failure::Refused(refusal)),
-        },
+        Err(Refusal::WrongLength) => Err(wrong_length(journal)),
+        Err(refusal) => Err(judge(journal).failure(refusal)),
     }
 }
 
 pub fn run(word: &OsStr, out: &mut dyn Write) -> Done {
     let journal = file::read(word)?;
-    let nodes = nodes(&journal);
-    if !matches!(nodes, Err(Failure::Fault { refusal: Refusal::WrongLength, .. })) {
-        let judged = judge(&journal);
-        for line in &judged.lines {
-            writeln!(out, "{line}")?;
-        }
-        writeln!(out, "{}", judged.summary())?;
+    let recovered = pasa::recover_journal(&journal, &mut [0; NODES]);
+    if recovered == Err(Refusal::WrongLength) {
+        return Err(wrong_length(&journal));
     }
-    nodes.map(|_| ())
+    let judged = judge(&journal);
+    for line in &judged.lines {
+        writeln!(out, "{line}")?;
+    }
+    writeln!(out, "{}", judged.summary())?;
+    recovered.map(|_| ()).map_err(|refusal| judged.failure(refusal))
 }
