@@ -417,7 +417,7 @@ static void put_block(size_t slot, const uint64_t *addresses, size_t count)
     bytes[511] = 0xA5;
 }
 
-/* Addresses as they are given, one more than a journal may hold: children of the root, of its routers and of node 100. */
+/* Addresses as they are given, one more than a hall may have: children of the root, of its routers and of node 100. */
 static uint64_t given[PASA_NODES];
 
 static size_t give(size_t count, uint64_t parent)

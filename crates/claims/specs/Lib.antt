@@ -28,5 +28,5 @@ pub mod Exports
 pub mod JournalCode
 -- request Five: limits per node, their settings, and what its code promises
 pub mod Limits
--- request Six: halls of 4,096 nodes, one more, and no other limits
+-- request Six: halls of 4,096 nodes, one node more, and no other limits of a plan or number of words
 pub mod Larger

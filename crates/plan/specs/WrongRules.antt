@@ -1,5 +1,5 @@
 -- Wrong rules for reading a plan, which demand 1 must exclude: impostors, slips in the order of the refusals and in what stands beside them, other
--- limits, and slips in the reading. Each but the impostor goes by the right rule with one part exchanged.
+-- limits, and slips in the reading. Each but the impostor goes by the right rule with one part or its numbers exchanged.
 use Prim.Native.Nat.{ℕ, suc, _-_}
 use mathlib.Core.Bool.{not, _&&_, _||_}
 use mathlib.Core.List.{List, [], _∷_, _++_}

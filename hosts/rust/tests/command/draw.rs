@@ -1,6 +1,7 @@
 use crate::plan::most;
 use crate::xml::{self, Element};
 use crate::{answer, file, text};
+use std::collections::HashMap;
 
 fn drawn(plan: &str) -> String {
     let got = answer(&["draw", "-"], plan);
@@ -126,6 +127,50 @@ fn no_line_lies_on_another() {
             assert!(!meet, "a line lies on another in the picture of {plan}");
         }
         assert!(of_levels.iter().all(|(_, top, bottom)| bottom - top <= 660), "a level's line is long in the picture of {plan}");
+    }
+}
+
+/// The middle of a node's sign.
+fn middle(node: &Element) -> (usize, usize) {
+    let sign = &node.children[1];
+    match sign.name.as_str() {
+        "circle" => (sign.number("cx"), sign.number("cy")),
+        "rect" => (sign.number("x") + sign.number("width") / 2, sign.number("y") + sign.number("height") / 2),
+        _ => match numbers(sign.attribute("d").unwrap())[..] {
+            [_, y, x, ..] => (x, y),
+            _ => panic!("a sign without places"),
+        },
+    }
+}
+
+/// The numbers of a path.
+fn numbers(path: &str) -> Vec<usize> {
+    path.split(|letter: char| !letter.is_ascii_digit()).filter_map(|number| number.parse().ok()).collect()
+}
+
+/// Each begins at the parent's sign, or where the link to the child before turns off, and ends at the node's own.
+#[test]
+fn every_link_joins_a_node_with_its_parent() {
+    let [broad, deep] = broad_and_deep();
+    for plan in ["R(R(H)H)", &most(), &broad, &deep] {
+        let picture = xml::read(&drawn(plan));
+        let paths = picture.named("path").into_iter().map(|path| path.attribute("d").unwrap());
+        let links: Vec<Vec<usize>> = paths.filter(|path| path.contains('q')).map(numbers).collect();
+        let mut nodes = nodes(&picture);
+        let mut begins = HashMap::from([("1".to_string(), middle(nodes.next().unwrap()))]);
+        let mut joined = 0;
+        for (node, link) in nodes.zip(&links) {
+            let title = node.children[0].text.clone();
+            let (address, parent) = (title.split(':').next().unwrap(), title.rsplit(' ').next().unwrap());
+            let [x, from, turn, _, across, right, down, to_x] = link[..] else { panic!("a link of other parts: {link:?}") };
+            assert_eq!((x, from), begins[parent], "the link to {address} begins elsewhere");
+            assert_eq!((to_x, turn + down), middle(node), "the link to {address} ends elsewhere");
+            assert!(from <= turn && across == down && x + right <= to_x, "the link to {address}: {link:?}");
+            begins.insert(parent.to_string(), (x, turn));
+            begins.insert(address.to_string(), middle(node));
+            joined += 1;
+        }
+        assert_eq!((joined, links.len()), (titles(&picture).len() - 1, joined), "in the picture of {plan}");
     }
 }
 
