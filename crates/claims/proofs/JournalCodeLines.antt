@@ -1,11 +1,18 @@
 -- The front page's lines on the code of request Four, each quoted from the function's own contract. Assumes nothing.
 use mathlib.Core.Path.{refl}
+use lib.ListN.{length}
+use denote.Ref.{now}
+use borrow.Author.Tests.{eq-eqb, ne-eqb}
 use Rattle.node.specs.Node.{withCounts}
 use Rattle.node.proofs.Promises.{with-counts-promise, with-counts-asks-nothing}
 use Rattle.crc.proofs.Promises.{crc-promise, crc-asks-nothing}
 use Rattle.block.proofs.Promises.{all-are-promise, all-are-asks-nothing, is-block-promise, is-block-asks-nothing, put-promise, put-asks-nothing}
+use Rattle.journal.specs.Recovery.{unfit, refuseRecovery}
+use Rattle.journal.specs.Reader.{begin}
+use Rattle.journal.proofs.RecoverLaws.{finished-known, finished-fault}
 use Rattle.journal.proofs.Promises.{refuse-promise, refuse-asks-nothing, unfit-promise, unfit-asks-nothing, take-slot-promise}
 use Rattle.journal.proofs.Promises.{take-slot-asks-nothing, finish-promise, finish-asks-nothing}
+use Rattle.reader.specs.SameAnswers.{asked, askedAll, byReader}
 use Rattle.reader.proofs.Promises.{start-promise, start-asks-nothing, next-promise, next-asks-nothing, place-promise, place-asks-nothing}
 use Rattle.reader.proofs.Promises.{recover-asks-nothing as reader-recover-asks-nothing}
 use Rattle.reader.proofs.Theorem.{same-answers}
@@ -61,8 +68,18 @@ journal-answers-as-defined = record {
 }
 
 pub the-reader : TheReader
+unfolding asked askedAll byReader begin refuseRecovery
 the-reader = record {
   sameAnswers = same-answers;
+  ofAnyReader = λ rule. (λ s. (s .keeps, s .place, s .ends, s .same), λ h. record { keeps = h .0; place = h .1; ends = h .2; same = h .3 });
+  unfitFirst = λ rule journal words ne. rw (ne-eqb (unfit (length (now journal)) (length words)) 0 ne) refl;
+  thenAsked = λ rule journal words z. rw (eq-eqb (unfit (length (now journal)) (length words)) 0 z) refl;
+  firstSlot = λ rule journal words. refl;
+  askedNone = λ rule a. refl;
+  askedDone = λ rule k a e. rw e refl;
+  askedOn = λ rule k a e. rw e refl;
+  finishedKnown = finished-known;
+  finishedFault = finished-fault;
   starts = λ 𝓤 H A mem run κs journal r end. (start-asks-nothing 𝓤 H A mem run κs journal, start-promise 𝓤 H A mem run κs journal r end);
   takes = λ 𝓤 H A mem run κs reader words written nodes r end. (
     next-asks-nothing 𝓤 H A mem run κs reader words written nodes,

@@ -9,14 +9,16 @@ use Rattle.address.specs.declared.Kind.the-variants.{Host}
 use Rattle.node.specs.Node.{childOf, setLimit}
 use Rattle.tree.specs.Tree.{request, Event, asking, grown}
 use Rattle.plan.specs.Hall.{hall}
-use Rattle.plan.specs.Plan.{PlanEffect, refusePlan}
+use Rattle.plan.specs.Plan.{refusePlan}
 use Rattle.plan.specs.Largest.{hosts, routers, largestWith, largest, tooLarge}
-use Rattle.plan.proofs.Largest.{largest-plan}
+use Rattle.plan.proofs.Largest.{largest-plan, long-texts}
 use Rattle.plan.proofs.WrongRules.{within-right, only-these-limits}
 use Rattle.halls.specs.Requests.{requests}
 use Rattle.halls.proofs.Planned.{planned-halls}
 use Rattle.halls.proofs.Largest.{largest-hall}
 use Rattle.journal.specs.Recovery.{refuseRecovery}
+use Rattle.journal.specs.Writing.{refusePlacing}
+use Rattle.journal.proofs.RecoverLaws.{recovering-unfit}
 use Rattle.journals.specs.Replays.{IsNextChild}
 use Rattle.journals.proofs.Full.{full-journals}
 use Rattle.journals.proofs.WrongRecoveries.{wrong-recoveries-excluded}
@@ -36,11 +38,14 @@ large-plans = record {
   read = λ words room.
       largest-plan .read words room
       ∙ ap (λ (l : List ℕ). record { answer = record { refusal = 0; nodes = 4096; place = 0 }; words = l ++ drop 4096 words }) its-hall;
-  noRoom = λ words few. ap (λ (e : PlanEffect). e .answer .refusal) (largest-plan .noRoom words few);
-  oneMore = λ words. ap (λ (e : PlanEffect). e .answer .refusal) (largest-plan .oneMore words);
+  noRoom = largest-plan .noRoom;
+  oneMore = largest-plan .oneMore;
   itsTree = largest-hall .counted;
   treeOfOneMore = largest-hall .oneMore;
-  bytes = largest-plan .bytes;
+  bytes = long-texts .bytes;
+  neverRead = long-texts .neverRead;
+  nonsense = long-texts .nonsense;
+  nonsenseOver = long-texts .nonsenseOver;
 }
 
 -- the request for the host behind gives an address
@@ -53,12 +58,14 @@ next-one =
     (omega (arith, largest-hall .counted, largest-hall .oneMore, ap (λ (es : List Event). length (nodesIn es)) last-event))
 
 pub large-journals : LargeJournals
-unfolding refuseRecovery
+unfolding refuseRecovery refusePlacing
 large-journals = record {
+  asksFirst = recovering-unfit;
   unfitExactly = full-journals .unfitExactly;
   everyHall = full-journals .everyHall;
-  largest = full-journals .everyHall (map asking (requests largest)) (omega (arith, largest-hall .counted));
-  oneMore = full-journals .oneMore;
+  largestRecovered = full-journals .everyHall (map asking (requests largest)) (omega (arith, largest-hall .counted));
+  writerRefuses = full-journals .writerRefuses;
+  recoveryRefuses = full-journals .recoveryRefuses;
   oneTooMany = full-journals .oneTooMany;
   nextOne = next-one;
 }

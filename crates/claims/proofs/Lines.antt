@@ -569,7 +569,13 @@ pub one-header-rule : OneHeaderRule
 one-header-rule = record { toWrite = one-writer; toRead = one-reader }
 
 pub one-plan-rule : OnePlanRule
-one-plan-rule = record { ours = one-rule }
+one-plan-rule = record {
+  planRefusals = λ rule. (
+    λ r. (r .given, r .place, r .noPlace, r .beside, r .without),
+    λ h. record { given = h .0; place = h .1; noPlace = h .2; beside = h .3; without = h .4 },
+  );
+  ours = one-rule;
+}
 
 pub wrong-plan-rules : WrongPlanRules
 wrong-plan-rules = record {

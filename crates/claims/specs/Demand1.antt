@@ -54,6 +54,17 @@ headerOrder p =
     otherwise 6 when ((1 < (getD p 1 0 - 128) + 1) × (getD p 3 0 ≡ 0))
     otherwise done
 
+-- request One, "Here and below, new refusals, conditions and orders join those of document 01": "Text over [32,768] bytes: 14. Then a text outside
+-- the grammar (a 65th open group counts): 13 .. Then over [4,096] nodes, the root counted: 14. Then an address too long: 3. Then no room: 10."
+abbrev pub planOrder : List ℕ → List ℕ → Order
+planOrder text words =
+    14 when 32768 < length text
+    otherwise 13 when (IsText text → ⊥)
+    otherwise 14 when ((plan : Items) × Spells text plan × (4096 < nodes plan))
+    otherwise 3 when ((plan : Items) × Spells text plan × List·Memᴰ 3 (map (λ (g : Given). g .refusal) (answers (fresh 1) plan)))
+    otherwise 10 when ((plan : Items) × Spells text plan × (length words < nodes plan))
+    otherwise done
+
 -- "is given exactly when that document says"
 pub record ExactlyWhen : Type 0 where
   -- "an address is zero"
@@ -118,17 +129,8 @@ pub record ExactlyWhen : Type 0 where
       ) (listing a d words .answer .refusal)
   -- the path program's work: 10 where the lent output is too short; 11 is no number here but its text (Paths)
   pub aLine : (input out : List ℕ) → GivenExactly (10 when length out < length (outputText input) otherwise done) (answering input out .answer .refusal)
-  -- request One, "Here and below, new refusals, conditions and orders join those of document 01": "Text over [32,768] bytes: 14. Then a text outside
-  -- the grammar (a 65th open group counts): 13 .. Then over [4,096] nodes, the root counted: 14. Then an address too long: 3. Then no room: 10."
-  pub aPlan : (text words : List ℕ)
-      → GivenExactly (
-      14 when 32768 < length text
-      otherwise 13 when (IsText text → ⊥)
-      otherwise 14 when ((plan : Items) × Spells text plan × (4096 < nodes plan))
-      otherwise 3 when ((plan : Items) × Spells text plan × List·Memᴰ 3 (map (λ (g : Given). g .refusal) (answers (fresh 1) plan)))
-      otherwise 10 when ((plan : Items) × Spells text plan × (length words < nodes plan))
-      otherwise done
-      ) (planning text words .answer .refusal)
+  -- request One, in its order
+  pub aPlan : (text words : List ℕ) → GivenExactly (planOrder text words) (planning text words .answer .refusal)
 
 -- "With any refusal the address, place, hop count and every other number returned beside its own are 0, a returned record is the one handed in,
 -- and no byte or word lent is changed."

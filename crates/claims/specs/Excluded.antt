@@ -2,8 +2,10 @@
 -- document 01 names, and some more, each refuted through the claim that excludes it.
 use mathlib.Core.Path.{_≡_}
 use Prim.Native.Nat.{ℕ}
-use mathlib.Core.List.{List, [], _∷_}
-use lib.ListN.{length}
+use mathlib.Core.Logic.{_↔_}
+use mathlib.Core.List.{List, [], _∷_, _++_}
+use lib.ListN.{length, drop}
+use Rattle.address.specs.Order.{GivenExactly}
 use Rattle.header.specs.Header.{size, header, writing, reading, found, refusedHeader}
 use Rattle.header.specs.RoundTrip.{HeaderWriter, HeaderReader, HeaderRoundTrip}
 use Rattle.header.specs.Refusals.{HeaderWriteRefusals, HeaderReadRefusals}
@@ -22,6 +24,8 @@ use Rattle.forward.specs.WrongRules.{zeroFirst}
 use Rattle.packet.specs.Packet.{packetHop}
 use Rattle.packet.specs.Refusals.{PacketRefusals}
 use Rattle.packet.specs.WrongRules.{readingFirst}
+use Rattle.plan.specs.Grammar.{Items, Spells, Stops}
+use Rattle.plan.specs.Hall.{hall, nodes}
 use Rattle.plan.specs.Plan.{planning}
 use Rattle.plan.specs.Refusals.{PlanRefusals}
 use Rattle.plan.specs.WrongRules.{PlanRule, refusesAll as refusesAllPlans, grammarFirst, nodesFirst, roomFirst, placeFromOne, placeBeside, writesWithoutRoom, writesRoot, rootUncounted, unlimited, routersLate}
@@ -31,6 +35,7 @@ use Rattle.tree.specs.Way.{HopRule}
 use Rattle.tree.specs.Demand3.{Demand3}
 use Rattle.tree.specs.WrongChildren.{sameChild, sharedCount, limitOnParent}
 use Rattle.tree.specs.WrongHops.{refusesEverything, parentToAll, leaps, namesNobody, hostKeeps, hostDelivers, rootAsHost, lowBits, beforeLastBit, oneCount}
+use Rattle.claims.specs.Demand1.{planOrder}
 
 -- "Cases marked P are proved, gathered in a single table under one claim."
 pub record KnownRows : Type 0 where
@@ -114,6 +119,17 @@ pub record OneHeaderRule : Type 0 where
 
 -- demand 1 of a plan leaves one rule, so that whatever answers otherwise anywhere is excluded
 pub record OnePlanRule : Type 0 where
+  -- what it says of a rule, field by field
+  pub planRefusals : (rule : PlanRule)
+      → PlanRefusals rule
+      ↔ (((text words : List ℕ) → GivenExactly (planOrder text words) (rule text words .answer .refusal))
+      × ((text words : List ℕ) → rule text words .answer .refusal ≡ 13 → Stops text (rule text words .answer .place))
+      × ((text words : List ℕ) → (rule text words .answer .refusal ≡ 13 → ⊥) → rule text words .answer .place ≡ 0)
+      × ((text words : List ℕ) → (rule text words .answer .refusal ≡ 0 → ⊥)
+      → (rule text words .answer .nodes ≡ 0) × (rule text words .words ≡ words))
+      × ((text words : List ℕ) → rule text words .answer .refusal ≡ 0
+      → (plan : Items) × Spells text plan
+      × ((rule text words .answer .nodes ≡ nodes plan) × (rule text words .words ≡ hall plan ++ drop (nodes plan) words))))
   pub ours : (rule : PlanRule) → PlanRefusals rule → (text words : List ℕ) → rule text words ≡ planning text words
 
 -- some that are

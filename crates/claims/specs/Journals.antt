@@ -78,7 +78,7 @@ pub record TheBlock : Type 0 where
   pub tested : (slot : List ℕ) → AreOctets slot → (isBlock slot ≡ true) ↔ ((xs : List ℕ) × IsBlockOf xs slot)
   pub alike : (o : ℕ) (bytes : List ℕ) → (allAre o bytes ≡ true) ↔ (bytes ≡ replicate (length bytes) o)
   pub put : (xs slot : List ℕ) → length slot ≡ 512 → 1 ≤ length xs → length xs ≤ 63 → blockPut xs slot ≡ block xs
-  pub notPut : (xs slot : List ℕ) → (length slot ≡ 512 → ⊥) ⊎ ((1 ≤ length xs) × (length xs ≤ 63) → ⊥) → blockPut xs slot ≡ slot
+  pub notPut : (xs slot : List ℕ) → (length slot ≡ 512 → ⊥) ⊎ (((1 ≤ length xs) × (length xs ≤ 63)) → ⊥) → blockPut xs slot ≡ slot
   pub noWord : AreWords [] ↔ Unit {0}
   pub oneWord : (a : ℕ) (xs : List ℕ) → AreWords (a ∷ xs) ↔ ((a < 2 ^ 64) × AreWords xs)
 

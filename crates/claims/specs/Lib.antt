@@ -28,5 +28,5 @@ pub mod Exports
 pub mod JournalCode
 -- request Five: limits per node, their settings, and what its code promises
 pub mod Limits
--- request Six: halls of 4,096 nodes, one node more, and no other limits of a plan or number of words
+-- request Six: halls of 4,096 nodes and texts of 32,768 bytes, one more, and no other numbers of nodes or bytes for a plan or of words for recovery
 pub mod Larger

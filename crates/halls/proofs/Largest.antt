@@ -43,6 +43,6 @@ largest-hall = record {
   counted =
       ap length (sym (planned-halls .tree largest (largest-plan .noneTooLong))) ∙ planned-halls .counted largest .1 ∙ largest-plan .counted;
   oneMore =
-      ap length (sym (planned-halls .tree tooLarge (largest-plan .moreTooLong))) ∙ planned-halls .counted tooLarge .1 ∙ largest-plan .moreCounted;
+      ap length (sym (planned-halls .tree tooLarge (largest-plan .moreNoneTooLong))) ∙ planned-halls .counted tooLarge .1 ∙ largest-plan .moreCounted;
   lastAsked = last-asked;
 }

@@ -1,5 +1,5 @@
--- A hall that is read is a tree of demand 3: the requests of a plan, what is claimed of them and of the reading, and an example. Statements
--- alone.
+-- A hall that is read is a tree of demand 3: the requests of a plan, what is claimed of them and of the reading, an example, and the largest hall.
+-- Statements alone.
 pub mod Requests
 pub mod Halls
 pub mod HallsRead

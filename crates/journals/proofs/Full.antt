@@ -1,4 +1,5 @@
--- The addresses of a hall, cut into blocks of 63, go into 65 slots; behind as many nodes as are allowed a next child is 14. Assumes nothing.
+-- The addresses of a hall, cut into blocks of 63, go into 65 slots; behind as many nodes as are allowed a next child is 14, and a fault stays.
+-- Assumes nothing.
 use Prim.Native.Nat.{ℕ, zero, suc, _*_, _^_, _≤_, _<_}
 use mathlib.Core.Path.{_≡_, refl, sym, ap, subst, _∙_}
 use mathlib.Core.List.{List, [], _∷_, _++_, map}
@@ -23,11 +24,11 @@ use Rattle.block.specs.Blocks.{AreWords}
 use Rattle.block.proofs.Cases.{isCount-true}
 use Rattle.block.proofs.Theorem.{blocks}
 use Rattle.journal.specs.Limits.{mostNodes}
-use Rattle.journal.specs.Replay.{Replay, fault, next, follow, bare}
-use Rattle.journal.specs.Slots.{replay, replayed}
+use Rattle.journal.specs.Replay.{Replay, known, fault, follow, bare}
+use Rattle.journal.specs.Slots.{slotsOf, replay, replayed}
 use Rattle.journal.specs.Recovery.{isLength, unfit, refuseRecovery, restored, recovering}
-use Rattle.journal.specs.Writing.{refusePlacing, judged, judging, writing}
-use Rattle.journal.proofs.ReplayLaws.{follow-append}
+use Rattle.journal.specs.Writing.{refusePlacing, judged, judging, stored, writing}
+use Rattle.journal.proofs.ReplayLaws.{follow-fault, follow-append}
 use Rattle.journals.specs.Replays.{IsNextChild, nodesOf}
 use Rattle.journals.specs.Slots.{IsLength, Holds, none as Holds·none, block as Holds·block}
 use Rattle.journals.specs.PowerCuts.{RecoversTo}
@@ -35,11 +36,11 @@ use Rattle.journals.specs.RoundTrip.{joined, AreBlocks, AllWritten}
 use Rattle.journals.specs.Full.{unfitOrder, FullJournals}
 use Rattle.journals.proofs.NextChild.{address-next}
 use Rattle.journals.proofs.GivenReplayed.{areWords-behind, next-given, follow-grown}
-use Rattle.journals.proofs.SlotTests.{AreSlots, block-isBlockOf}
-use Rattle.journals.proofs.SlotReplays.{areWords-append, replay-holds}
+use Rattle.journals.proofs.SlotTests.{AreSlots, areSlots-front, block-isBlockOf}
+use Rattle.journals.proofs.SlotReplays.{replay-fault, gapsAfter, replay-append, areWords-append, replay-holds}
 use Rattle.journals.proofs.Recovering.{known-recovers}
 use Rattle.journals.proofs.AfterWrites.{put-accepted, octets-put}
-use Rattle.journals.proofs.Lengths.{isLength-right, right-isLength, length-joined, slotsOf-joined, octets-joined}
+use Rattle.journals.proofs.Lengths.{isLength-right, right-isLength, slots-slotsOf, length-joined, slotsOf-joined, octets-joined}
 use Rattle.journals.proofs.Erased.{erasedJournal, octets-erased}
 use Rattle.journals.proofs.RoundTrips.{areWords-front, nodesOf-words, round-trip}
 use Rattle.journals.proofs.Theorem.{replays}
@@ -92,14 +93,46 @@ every-hall es few =
     at-end (λ after. RecoversTo recovering after (nodesOf es)) (cut 65 given) (erasedJournal 65) (octets-erased 65)
     (round-trip .whole 65 es (cut 65 given) (omega arith) (omega arith) (joined-cut 65 given (omega (arith, few, ap length (addresses-grown es)))) (blocks-cut 65 given) (length-cut 65 given) few)
 
-one-more : (journal : List ℕ) (es : List Event) (a : ℕ) → RecoversTo recovering journal (nodesOf es) → mostNodes ≤ length (nodesOf es)
-    → IsNextChild (grown childOf setLimit es) a → writing journal (a ∷ []) .answer .refusal ≡ 14
-unfolding writing judging judged refusePlacing follow
-one-more journal es a r full child =
-    let (isLong, e) = known-recovers journal (nodesOf es) r in
-    let fits = address-next (grown childOf setLimit es) (sound-grown es) child .fits in
-    let faulty = replays .fault14 es a fits .1 (child, full) in
-    rw (isLength-right (length journal) isLong, isCount-true 1 (omega arith, omega arith), e, faulty) refl
+-- ---- one next child more
+
+module _ (es : List Event) (a : ℕ) (full : length (nodesOf es) ≡ mostNodes) (child : IsNextChild (grown childOf setLimit es) a) where
+  fits-child : a < 2 ^ 64
+  fits-child = address-next (grown childOf setLimit es) (sound-grown es) child .fits
+
+  follow-more : (rest : List ℕ) → follow (known (nodesOf es)) (a ∷ rest) ≡ fault 14
+  unfolding follow
+  follow-more rest =
+      ap (λ (r : Replay). follow r rest) (replays .fault14 es a fits-child .1 (child, omega (arith, full))) ∙ follow-fault 14 rest
+
+  follow-all : (rest : List ℕ) → follow bare (givenIn childOf setLimit es ++ (a ∷ rest)) ≡ fault 14
+  follow-all rest =
+      follow-append bare (givenIn childOf setLimit es) (a ∷ rest)
+      ∙ ap (λ (r : Replay). follow r (a ∷ rest)) (follow-grown es (omega (arith, full)))
+      ∙ follow-more rest
+
+  writer-refuses : (journal rest : List ℕ) → RecoversTo recovering journal (nodesOf es) → length rest ≤ 62
+      → writing journal (a ∷ rest) ≡ record { answer = refusePlacing 14; journal = journal }
+  unfolding writing judging judged stored refusePlacing
+  writer-refuses journal rest r short =
+      let (isLong, e) = known-recovers journal (nodesOf es) r in
+      rw (isLength-right (length journal) isLong, isCount-true (suc (length rest)) (omega arith, omega arith), e, follow-more rest) refl
+
+  module _ (journal : List ℕ) (kept behind : List (List ℕ)) (rest : List ℕ) (octets : AreOctets journal) (isLong : IsLength (length journal))
+      (parts : slotsOf journal ≡ kept ++ behind) (holds : Holds kept (givenIn childOf setLimit es ++ (a ∷ rest))) where
+    kept-slots : AreSlots kept
+    kept-slots = areSlots-front kept behind (subst AreSlots parts (slots-slotsOf journal octets))
+
+    replays-more : replayed journal ≡ fault 14
+    unfolding replayed
+    replays-more =
+        ap (replay false bare) parts ∙ replay-append false bare kept behind
+        ∙ ap (λ (r : Replay). replay (gapsAfter false kept) r behind) (replay-holds holds kept-slots bare ∙ follow-all rest)
+        ∙ replay-fault (gapsAfter false kept) 14 behind
+
+    recovery-refuses : (words : List ℕ) → mostNodes ≤ length words → recovering journal words ≡ refuseRecovery 14 (replicate (length words) 0)
+    unfolding recovering restored
+    recovery-refuses words room =
+        rw (isLength-right (length journal) isLong, le-ltb (length words) mostNodes room, replays-more) refl
 
 -- ---- a journal of any addresses
 
@@ -126,9 +159,6 @@ module _ (es : List Event) (a : ℕ) (full : length (nodesOf es) ≡ mostNodes) 
   abbrev slots : List (List ℕ)
   slots = map block (cut 66 all)
 
-  fits-child : a < 2 ^ 64
-  fits-child = address-next (grown childOf setLimit es) (sound-grown es) child .fits
-
   all-length : length all ≡ mostNodes
   all-length = omega (arith, full, ap length (addresses-grown es), length-append (givenIn childOf setLimit es) (a ∷ []))
 
@@ -138,25 +168,10 @@ module _ (es : List Event) (a : ℕ) (full : length (nodesOf es) ≡ mostNodes) 
   all-words : AreWords all
   all-words =
       areWords-append (givenIn childOf setLimit es) (a ∷ [])
-      (areWords-behind (root ∷ []) (givenIn childOf setLimit es) (subst AreWords (addresses-grown es) (nodesOf-words es))) (fits-child, tt)
-
-  follows-all : follow bare all ≡ fault 14
-  unfolding follow
-  follows-all =
-      follow-append bare (givenIn childOf setLimit es) (a ∷ [])
-      ∙ ap (λ (r : Replay). next r a) (follow-grown es (omega (arith, full)))
-      ∙ replays .fault14 es a fits-child .1 (child, omega (arith, full))
+      (areWords-behind (root ∷ []) (givenIn childOf setLimit es) (subst AreWords (addresses-grown es) (nodesOf-words es))) (fits-child es a full child, tt)
 
   are-slots : AreSlots slots
   are-slots = block-slots (cut 66 all) (blocks-cut 66 all)
-
-  replays-all : replayed (joined slots) ≡ fault 14
-  unfolding replayed
-  replays-all =
-      ap (replay false bare) (slotsOf-joined slots are-slots)
-      ∙ replay-holds (block-holds (cut 66 all) (blocks-cut 66 all) (subst AreWords all-cut all-words)) are-slots bare
-      ∙ ap (follow bare) (sym all-cut)
-      ∙ follows-all
 
   is-long : IsLength (length (joined slots))
   is-long = record {
@@ -166,13 +181,13 @@ module _ (es : List Event) (a : ℕ) (full : length (nodesOf es) ≡ mostNodes) 
     whole = length-joined slots are-slots;
   }
 
-  one-too-many : (journal : List ℕ) × AreOctets journal
-      × ((words : List ℕ) → mostNodes ≤ length words → recovering journal words ≡ refuseRecovery 14 (replicate (length words) 0))
-  unfolding recovering restored
+  one-too-many : (journal : List ℕ) × AreOctets journal × IsLength (length journal) × Holds (slotsOf journal) all
   one-too-many = (
     joined slots,
     octets-joined slots are-slots,
-    λ words room. rw (isLength-right (length (joined slots)) is-long, le-ltb (length words) mostNodes room, replays-all) refl,
+    is-long,
+    subst (λ (ls : List (List ℕ)). Holds ls all) (sym (slotsOf-joined slots are-slots))
+        (subst (Holds slots) (sym all-cut) (block-holds (cut 66 all) (blocks-cut 66 all) (subst AreWords all-cut all-words))),
   )
 
 -- ---- what one more event gives
@@ -223,7 +238,9 @@ pub full-journals : FullJournals
 full-journals = record {
   unfitExactly = λ bytes words. given-exactly (unfitOrder bytes words) (unfit-first bytes words);
   everyHall = every-hall;
-  oneMore = one-more;
+  writerRefuses = λ journal es a rest r full child short. writer-refuses es a full child journal rest r short;
+  recoveryRefuses = λ journal kept behind es a rest octets isLong parts holds full child.
+      recovery-refuses es a full child journal kept behind rest octets isLong parts holds;
   oneTooMany = one-too-many;
   nextOne = next-one;
 }

@@ -6,12 +6,13 @@ use lib.ListN.{length, replicate}
 use Rattle.address.specs.Order.{Order, done, _when_otherwise_, GivenExactly}
 use Rattle.node.specs.Node.{childOf, setLimit}
 use Rattle.octets.specs.Octets.{AreOctets}
-use Rattle.tree.specs.Tree.{Event, grown}
+use Rattle.tree.specs.Tree.{Event, grown, givenIn}
 use Rattle.journal.specs.Limits.{mostNodes}
+use Rattle.journal.specs.Slots.{slotsOf}
 use Rattle.journal.specs.Recovery.{unfit, refuseRecovery, recovering}
-use Rattle.journal.specs.Writing.{writing}
+use Rattle.journal.specs.Writing.{refusePlacing, writing}
 use Rattle.journals.specs.Replays.{IsNextChild, nodesOf}
-use Rattle.journals.specs.Slots.{IsLength}
+use Rattle.journals.specs.Slots.{IsLength, Holds}
 use Rattle.journals.specs.PowerCuts.{RecoversTo}
 
 -- "Recovery first checks the length (12), then that at least [4,096] words are lent (10)", before it looks into the journal
@@ -26,12 +27,17 @@ pub record FullJournals : Type 0 where
   -- every tree of demand 3 that has not more nodes than that is recovered from some journal: the slots suffice
   pub everyHall : (es : List Event) → length (nodesOf es) ≤ mostNodes
       → (journal : List ℕ) × AreOctets journal × RecoversTo recovering journal (nodesOf es)
-  -- and where there are as many, one next child more is refused
-  pub oneMore : (journal : List ℕ) (es : List Event) (a : ℕ) → RecoversTo recovering journal (nodesOf es) → mostNodes ≤ length (nodesOf es)
-      → IsNextChild (grown childOf setLimit es) a → writing journal (a ∷ []) .answer .refusal ≡ 14
-  -- and a journal with it in a block behind them is refused
+  -- where there are as many, the writer refuses a block that begins with a next child, whatever follows in it
+  pub writerRefuses : (journal : List ℕ) (es : List Event) (a : ℕ) (rest : List ℕ) → RecoversTo recovering journal (nodesOf es)
+      → length (nodesOf es) ≡ mostNodes → IsNextChild (grown childOf setLimit es) a → length rest ≤ 62
+      → writing journal (a ∷ rest) ≡ record { answer = refusePlacing 14; journal = journal }
+  -- and recovery every journal whose slots hold such a child behind them, whatever follows in these slots or behind them
+  pub recoveryRefuses : (journal : List ℕ) (kept behind : List (List ℕ)) (es : List Event) (a : ℕ) (rest : List ℕ) → AreOctets journal
+      → IsLength (length journal) → slotsOf journal ≡ kept ++ behind → Holds kept (givenIn childOf setLimit es ++ (a ∷ rest))
+      → length (nodesOf es) ≡ mostNodes → IsNextChild (grown childOf setLimit es) a
+      → (words : List ℕ) → mostNodes ≤ length words → recovering journal words ≡ refuseRecovery 14 (replicate (length words) 0)
+  -- such a journal there is
   pub oneTooMany : (es : List Event) (a : ℕ) → length (nodesOf es) ≡ mostNodes → IsNextChild (grown childOf setLimit es) a
-      → (journal : List ℕ) × AreOctets journal
-      × ((words : List ℕ) → mostNodes ≤ length words → recovering journal words ≡ refuseRecovery 14 (replicate (length words) 0))
-  -- such a child there is where one more event gives an address
+      → (journal : List ℕ) × AreOctets journal × IsLength (length journal) × Holds (slotsOf journal) (givenIn childOf setLimit es ++ (a ∷ []))
+  -- and such a child, where one more event gives an address
   pub nextOne : (es : List Event) (e : Event) → length (nodesOf es) < length (nodesOf (es ++ (e ∷ []))) → (a : ℕ) × IsNextChild (grown childOf setLimit es) a

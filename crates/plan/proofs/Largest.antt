@@ -1,12 +1,12 @@
--- A plan of as many nodes as are allowed is read: each node's children fit where its address and the number of its children are short enough.
--- Assumes nothing.
+-- A plan of as many nodes as are allowed is read: each node's children fit where its address and the number of its children are short enough. A
+-- text of as many bytes is never read: what it spells has too many nodes. Assumes nothing.
 use Prim.Native.Nat.{ℕ, zero, suc, _+_, _*_, _≤_, _<_}
 use mathlib.Core.Path.{_≡_, refl, ap, _∙_}
 use mathlib.Core.Bool.{Bool, true, false}
-use mathlib.Core.Logic.{⊎-elim}
+use mathlib.Core.Logic.{_⊎_, inl, inr, ⊎-elim}
 use mathlib.Core.List.{List, [], _∷_, _++_, map, map-append, List·Memᴰ, List·Memᴰ·not-nil, List·Memᴰ·cases-cons, List·Memᴰ·append-cases}
 use native.Mathlib.Omega.{arith}
-use lib.ListN.{length, drop, length-append}
+use lib.ListN.{length, drop, replicate, length-append, length-replicate}
 use lib.Dec.{ltb}
 use borrow.Author.Tests.{ltb-true, ltb-false}
 use Rattle.address.specs.Bits.{longest, lastBit, bitsIn, bits, root}
@@ -20,16 +20,18 @@ use Rattle.node.proofs.ChildLaws.{length-childBits}
 use Rattle.node.proofs.Children.{addressIn-fresh, count-fresh, count-raised, below-noCap, MayGive, childOf-given}
 use Rattle.node.proofs.GivenChildren.{gives-children}
 use Rattle.plan.specs.Limits.{mostBytes, mostNodes}
-use Rattle.plan.specs.Grammar.{Items, none, host, router, itemsText, planText, groupsOpen, Spells}
+use Rattle.plan.specs.Grammar.{letterH, Items, none, host, router, itemsText, planText, groupsOpen, Spells}
 use Rattle.plan.specs.Hall.{childIn, answers, hall, items, nodes, refusalOf, SomeTooLong}
-use Rattle.plan.specs.Reading.{whole, reading}
-use Rattle.plan.specs.Plan.{refusePlan, missing, planning}
-use Rattle.plan.specs.Largest.{hosts, routers, largestWith, largest, tooLarge, LargestPlan}
+use Rattle.plan.specs.Reading.{start, move, whole, faultAt, reading}
+use Rattle.plan.specs.Plan.{PlanEffect, refusePlan, missing, planning}
+use Rattle.plan.specs.Largest.{hosts, routers, largestWith, largest, tooLarge, LargestPlan, LongTexts}
+use Rattle.plan.proofs.MoveLaws.{readFrom-fault}
 use Rattle.plan.proofs.Inner.{Inner, inner-root, inner-next, inner-child}
 use Rattle.plan.proofs.Answers.{length-hall}
 use Rattle.plan.proofs.TooLong.{too-long}
 use Rattle.plan.proofs.Wholly.{reading-spells}
-use Rattle.plan.proofs.PlanLaws.{planning-nodes, planning-room, planning-done}
+use Rattle.plan.proofs.PlanLaws.{planning-bytes, planning-stops, planning-nodes, planning-room, planning-done}
+use Rattle.plan.proofs.RefusalLaws.{End, manyBytes, outside, manyNodes, tooLong, noRoom, fits, planning-end}
 
 -- ---- three bytes a node
 
@@ -253,6 +255,39 @@ largest-plan = record {
   oneMore = largest-more;
   moreSpelled = more-spelled;
   moreCounted = more-nodes;
-  moreTooLong = more-long;
+  moreNoneTooLong = more-long;
+}
+
+-- ---- as many bytes as are allowed
+
+module _ (text words : List ℕ) (long : 3 * mostNodes < length text) where
+  -- what it spells has too many nodes
+  many : (plan : Items) → Spells text plan → mostNodes < nodes plan
+  many plan s = omega (arith, long, ap length (s .spelled), length-planText plan)
+
+  end-never-read : {e : PlanEffect} → End text words e → (e .answer .refusal ≡ 13) ⊎ (e .answer .refusal ≡ 14)
+  unfolding refusePlan
+  end-never-read (manyBytes over) = inr refl
+  end-never-read (outside below p s) = inl refl
+  end-never-read (manyNodes below plan s more) = inr refl
+  end-never-read (tooLong below plan s most some) = absurd (omega (arith, most, many plan s))
+  end-never-read (noRoom below plan s most fit full) = absurd (omega (arith, most, many plan s))
+  end-never-read (fits below plan s most fit room) = absurd (omega (arith, most, many plan s))
+
+  never-read : (planning text words .answer .refusal ≡ 13) ⊎ (planning text words .answer .refusal ≡ 14)
+  never-read = end-never-read (planning-end text words)
+
+-- a text that begins with a host stops at once
+pub nonsense-stops : (s : List ℕ) → reading (letterH ∷ s) ≡ faultAt 0
+unfolding reading move
+nonsense-stops s = readFrom-fault 0 start letterH s refl
+
+pub long-texts : LongTexts
+long-texts = record {
   bytes = length-planText;
+  neverRead = never-read;
+  nonsense = λ words.
+      planning-stops (replicate mostBytes letterH) words (omega (arith, length-replicate mostBytes letterH)) (nonsense-stops (replicate 32767 letterH));
+  nonsenseOver = λ words.
+      planning-bytes (replicate (suc mostBytes) letterH) words (omega (arith, length-replicate (suc mostBytes) letterH));
 }

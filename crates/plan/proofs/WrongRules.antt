@@ -32,14 +32,13 @@ use Rattle.plan.specs.WrongRules.{judgedBy, planningBy, rightParts, refu
 use Rattle.plan.specs.WrongRules.{listing, listedWithin, planningWithin}
 use Rattle.plan.specs.WrongRules.{placeFromOne, placeBeside, writesWithoutRoom, writesRoot, rootUncounted}
 use Rattle.plan.specs.WrongRules.{readFromBy, moving, moveUnlimited, unlimited, withoutAddress, closingAddress, moveLate, routersLate}
-use Rattle.plan.proofs.MoveLaws.{readFrom-fault}
 use Rattle.plan.proofs.Answers.{length-hall}
 use Rattle.plan.proofs.Spelling.{planText-one}
 use Rattle.plan.proofs.Wholly.{reading-spells}
 use Rattle.plan.proofs.Exact.{not-both, faultAt-stops}
 use Rattle.plan.proofs.Inner.{Inner, inner-root, inner-refusal, inner-next}
 use Rattle.plan.proofs.RefusalLaws.{tooLong}
-use Rattle.plan.proofs.Largest.{hosts-spelled}
+use Rattle.plan.proofs.Largest.{hosts-spelled, nonsense-stops}
 use Rattle.plan.proofs.OneRule.{only-end, one-rule}
 
 -- ---- the wrong rules are made as the right one is
@@ -131,16 +130,15 @@ routersLate-refuted claim =
 
 -- a text that begins with a host is none
 no-text : (s : List ℕ) → IsText (letterH ∷ s) → ⊥
-unfolding move
-no-text s t = not-both (letterH ∷ s) 0 t (faultAt-stops (letterH ∷ s) 0 (unfold reading in readFrom-fault 0 start letterH s refl))
+no-text s t = not-both (letterH ∷ s) 0 t (faultAt-stops (letterH ∷ s) 0 (nonsense-stops s))
 
 -- a byte too many, all of them "H": too many bytes, and not a fault
 pub grammarFirst-refuted : PlanRefusals grammarFirst → ⊥
-unfolding grammarFirst judged refusePlan reading move
+unfolding grammarFirst judged refusePlan
 grammarFirst-refuted claim =
     let s = replicate mostBytes letterH in
     let long : mostBytes < suc (length s) = omega (arith, length-replicate mostBytes letterH) in
-    let made = ap (λ (r : Reading). judged r [] .answer .refusal) (readFrom-fault 0 start letterH s refl) in
+    let made = ap (λ (r : Reading). judged r [] .answer .refusal) (nonsense-stops s) in
     let right = claim .given (letterH ∷ s) [] 14 .1 (inl (long, refl)) in
     omega arith
 
@@ -216,8 +214,8 @@ module _ (bytes most : ℕ) where
   within-over text h = rw (lt-ltb bytes (length text) h) refl
 
   within-fault : (s : List ℕ) → length s < bytes → planningWithin bytes most (letterH ∷ s) [] ≡ refusePlan 13 0 []
-  unfolding planningWithin judgedBy reading move
-  within-fault s h = rw (le-ltb bytes (suc (length s)) h, readFrom-fault 0 start letterH s refl) refl
+  unfolding planningWithin judgedBy
+  within-fault s h = rw (le-ltb bytes (suc (length s)) h, nonsense-stops s) refl
 
   module _ (k : ℕ) (short : k + 3 ≤ bytes) where
     within-hosts : planningWithin bytes most (planText (hosts k)) [] ≡ listedWithin most (hall (hosts k)) []
