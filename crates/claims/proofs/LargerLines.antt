@@ -21,6 +21,7 @@ use Rattle.journal.specs.Writing.{refusePlacing}
 use Rattle.journal.proofs.RecoverLaws.{recovering-unfit}
 use Rattle.journals.specs.Replays.{IsNextChild}
 use Rattle.journals.proofs.Full.{full-journals}
+use Rattle.journals.proofs.OtherNodes.{other-nodes-excluded}
 use Rattle.journals.proofs.WrongRecoveries.{wrong-recoveries-excluded}
 use Rattle.claims.specs.Larger.{nodesIn, nodesOfPlan, LargePlans, LargeJournals, NoOtherLimits}
 
@@ -74,6 +75,8 @@ pub no-other-limits : NoOtherLimits
 no-other-limits = record {
   ofThese = within-right;
   ofOthers = only-these-limits;
+  holdingThese = other-nodes-excluded .ownNodes;
+  holdingOthers = other-nodes-excluded .otherNodes (map asking (requests largest)) (next-one .0) (largest-hall .counted) (next-one .1);
   wantingThese = wrong-recoveries-excluded .ownWords;
   wantingOthers = wrong-recoveries-excluded .otherWords;
 }

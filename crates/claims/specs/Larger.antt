@@ -1,7 +1,6 @@
 -- Request Six: larger halls. Where a number moved it stands in the refusals themselves (Demand1, Plans, Journals). "slots, nesting and path length
 -- stay": 128 slots (Journals, `TheSlots.isLength`), 64 groups (Plans, `TheText.spells`), 126 addresses (Paths, `ThePath.atMost126`). Here stands that
--- there are such halls and texts, that one node or byte more is refused, and that no other numbers are allowed in the place of a plan's nodes and
--- bytes, nor of the words that recovery wants.
+-- there are such halls and texts, that one node or byte more is refused, and that no other numbers are allowed in the place of those that moved.
 use Prim.Native.Nat.{ℕ, suc, _*_, _<_, _≤_}
 use mathlib.Core.Path.{_≡_}
 use mathlib.Core.Logic.{_⊎_}
@@ -24,7 +23,7 @@ use Rattle.journal.specs.Writing.{writing}
 use Rattle.journals.specs.Replays.{IsNextChild}
 use Rattle.journals.specs.Slots.{IsLength, Holds}
 use Rattle.journals.specs.Refusals.{RecoverRefusals}
-use Rattle.journals.specs.WrongRecoveries.{wanting}
+use Rattle.journals.specs.WrongRecoveries.{wanting, holding}
 use Rattle.claims.specs.Demand3.{treeOf}
 use Rattle.claims.specs.Journals.{RecoversTo}
 
@@ -88,11 +87,14 @@ pub record LargeJournals : Type 0 where
       → (journal : List ℕ) × AreOctets journal × IsLength (length journal) × Holds (slotsOf journal) (givenIn childOf setLimit es ++ (a ∷ []))
   pub nextOne : (a : ℕ) × IsNextChild (treeOf (map asking (requests (largestWith none)))) a
 
--- our rules with any numbers in the place of a plan's bytes and nodes (plan, WrongRules) and of recovery's words (journals, WrongRecoveries): ours
--- are allowed, and no others
+-- our rules with any numbers in the place of a plan's bytes and nodes (plan, WrongRules) and of recovery's nodes and words (journals,
+-- WrongRecoveries): ours are allowed, and no others
 pub record NoOtherLimits : Type 0 where
   pub ofThese : (text words : List ℕ) → planningWithin 32768 4096 text words ≡ planning text words
   pub ofOthers : (bytes most : ℕ) → PlanRefusals (planningWithin bytes most) → (bytes ≡ 32768) × (most ≡ 4096)
+  -- "and a recovered journal"
+  pub holdingThese : (journal words : List ℕ) → holding 4096 journal words ≡ recovering journal words
+  pub holdingOthers : (most : ℕ) → RecoverRefusals (holding most) → most ≡ 4096
   -- "Recovery wants 4,096 words lent."
   pub wantingThese : (journal words : List ℕ) → wanting 4096 journal words ≡ recovering journal words
   pub wantingOthers : (most : ℕ) → RecoverRefusals (wanting most) → most ≡ 4096

@@ -28,5 +28,5 @@ pub mod Exports
 pub mod JournalCode
 -- request Five: limits per node, their settings, and what its code promises
 pub mod Limits
--- request Six: halls of 4,096 nodes and texts of 32,768 bytes, one more, and no other numbers of nodes or bytes for a plan or of words for recovery
+-- request Six: halls of 4,096 nodes and texts of 32,768 bytes, one more, and no other numbers in the place of those that moved
 pub mod Larger

@@ -99,12 +99,12 @@ module _ (es : List Event) (a : ℕ) (full : length (nodesOf es) ≡ mostNodes) 
   fits-child : a < 2 ^ 64
   fits-child = address-next (grown childOf setLimit es) (sound-grown es) child .fits
 
-  follow-more : (rest : List ℕ) → follow (known (nodesOf es)) (a ∷ rest) ≡ fault 14
+  pub follow-more : (rest : List ℕ) → follow (known (nodesOf es)) (a ∷ rest) ≡ fault 14
   unfolding follow
   follow-more rest =
       ap (λ (r : Replay). follow r rest) (replays .fault14 es a fits-child .1 (child, omega (arith, full))) ∙ follow-fault 14 rest
 
-  follow-all : (rest : List ℕ) → follow bare (givenIn childOf setLimit es ++ (a ∷ rest)) ≡ fault 14
+  pub follow-all : (rest : List ℕ) → follow bare (givenIn childOf setLimit es ++ (a ∷ rest)) ≡ fault 14
   follow-all rest =
       follow-append bare (givenIn childOf setLimit es) (a ∷ rest)
       ∙ ap (λ (r : Replay). follow r (a ∷ rest)) (follow-grown es (omega (arith, full)))
@@ -152,43 +152,52 @@ unfolding cut
 cut-some k [] h = absurd (omega arith)
 cut-some k (x ∷ xs) h = omega arith
 
-module _ (es : List Event) (a : ℕ) (full : length (nodesOf es) ≡ mostNodes) (child : IsNextChild (grown childOf setLimit es) a) where
-  abbrev all : List ℕ
-  all = givenIn childOf setLimit es ++ (a ∷ [])
+-- some journal's slots hold them, in full blocks but for the last
+abbrev pub JournalOf : List ℕ → Type 0
+JournalOf xs = (journal : List ℕ) × AreOctets journal × IsLength (length journal) × Holds (slotsOf journal) xs
 
+module _ (xs : List ℕ) (words : AreWords xs) (some : 1 ≤ length xs) (few : length xs ≤ 63 * 128) where
   abbrev slots : List (List ℕ)
-  slots = map block (cut 66 all)
+  slots = map block (cut 128 xs)
 
-  all-length : length all ≡ mostNodes
-  all-length = omega (arith, full, ap length (addresses-grown es), length-append (givenIn childOf setLimit es) (a ∷ []))
-
-  all-cut : all ≡ joined (cut 66 all)
-  all-cut = joined-cut 66 all (omega (arith, all-length))
-
-  all-words : AreWords all
-  all-words =
-      areWords-append (givenIn childOf setLimit es) (a ∷ [])
-      (areWords-behind (root ∷ []) (givenIn childOf setLimit es) (subst AreWords (addresses-grown es) (nodesOf-words es))) (fits-child es a full child, tt)
+  whole-cut : xs ≡ joined (cut 128 xs)
+  whole-cut = joined-cut 128 xs few
 
   are-slots : AreSlots slots
-  are-slots = block-slots (cut 66 all) (blocks-cut 66 all)
+  are-slots = block-slots (cut 128 xs) (blocks-cut 128 xs)
 
   is-long : IsLength (length (joined slots))
   is-long = record {
     slots = length slots;
-    some = omega (arith, length-map (cut 66 all) block, cut-some 65 all (omega (arith, all-length)));
-    few = omega (arith, length-map (cut 66 all) block, length-cut 66 all);
+    some = omega (arith, length-map (cut 128 xs) block, cut-some 127 xs some);
+    few = omega (arith, length-map (cut 128 xs) block, length-cut 128 xs);
     whole = length-joined slots are-slots;
   }
 
-  one-too-many : (journal : List ℕ) × AreOctets journal × IsLength (length journal) × Holds (slotsOf journal) all
-  one-too-many = (
+  pub journal-of : JournalOf xs
+  journal-of = (
     joined slots,
     octets-joined slots are-slots,
     is-long,
-    subst (λ (ls : List (List ℕ)). Holds ls all) (sym (slotsOf-joined slots are-slots))
-        (subst (Holds slots) (sym all-cut) (block-holds (cut 66 all) (blocks-cut 66 all) (subst AreWords all-cut all-words))),
+    subst (λ (ls : List (List ℕ)). Holds ls xs) (sym (slotsOf-joined slots are-slots))
+        (subst (Holds slots) (sym whole-cut) (block-holds (cut 128 xs) (blocks-cut 128 xs) (subst AreWords whole-cut words))),
   )
+
+-- ---- the journals of as many nodes as are allowed, and of a next child more
+
+pub words-given : (es : List Event) → AreWords (givenIn childOf setLimit es)
+words-given es = areWords-behind (root ∷ []) (givenIn childOf setLimit es) (subst AreWords (addresses-grown es) (nodesOf-words es))
+
+pub length-given : (es : List Event) → suc (length (givenIn childOf setLimit es)) ≡ length (nodesOf es)
+length-given es = ap length (sym (addresses-grown es))
+
+pub one-too-many : (es : List Event) (a : ℕ) → length (nodesOf es) ≡ mostNodes → IsNextChild (grown childOf setLimit es) a
+    → JournalOf (givenIn childOf setLimit es ++ (a ∷ []))
+one-too-many es a full child =
+    let given = givenIn childOf setLimit es in
+    let counted = length-append given (a ∷ []) in
+    journal-of (given ++ (a ∷ [])) (areWords-append given (a ∷ []) (words-given es) (fits-child es a full child, tt)) (omega (arith, counted))
+    (omega (arith, counted, full, length-given es))
 
 -- ---- what one more event gives
 

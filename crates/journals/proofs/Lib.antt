@@ -28,3 +28,4 @@ pub mod WrongWriters
 pub mod WrongRecoveries
 pub mod Theorem
 pub mod Full
+pub mod OtherNodes

@@ -54,7 +54,7 @@ own-slots journal = taking-own false bare (slotsOf journal)
 -- ---- with others
 
 -- words enough, and none of them zero
-abbrev ones : List ℕ
+abbrev pub ones : List ℕ
 ones = replicate mostNodes 1
 
 room : mostNodes ≤ length ones
@@ -72,7 +72,7 @@ module _ (journal words : List ℕ) (h : IsLength (length journal)) (lent : most
   ends-right r e = rw (isLength-right (length journal) h, le-ltb (length words) mostNodes lent, e) refl
 
 -- what a rule that is allowed comes to there
-both-ends : (come : List ℕ → Replay) (end : Replay → List ℕ → RecoverEffect) → RecoverRefusals (replaying come end)
+pub both-ends : (come : List ℕ → Replay) (end : Replay → List ℕ → RecoverEffect) → RecoverRefusals (replaying come end)
     → (journal : List ℕ) → IsLength (length journal) → AreOctets journal → (r s : Replay) → come journal ≡ r → replayed journal ≡ s
     → end r ones ≡ restored s ones
 both-ends come end claim journal h all r s e f =

@@ -14,6 +14,8 @@ use Rattle.journal.specs.Writing.{refusePlacing, writing}
 use Rattle.journals.specs.Replays.{IsNextChild, nodesOf}
 use Rattle.journals.specs.Slots.{IsLength, Holds}
 use Rattle.journals.specs.PowerCuts.{RecoversTo}
+use Rattle.journals.specs.Refusals.{RecoverRefusals}
+use Rattle.journals.specs.WrongRecoveries.{holding}
 
 -- "Recovery first checks the length (12), then that at least [4,096] words are lent (10)", before it looks into the journal
 abbrev pub unfitOrder : ℕ → ℕ → Order
@@ -41,3 +43,9 @@ pub record FullJournals : Type 0 where
       → (journal : List ℕ) × AreOctets journal × IsLength (length journal) × Holds (slotsOf journal) (givenIn childOf setLimit es ++ (a ∷ []))
   -- and such a child, where one more event gives an address
   pub nextOne : (es : List Event) (e : Event) → length (nodesOf es) < length (nodesOf (es ++ (e ∷ []))) → (a : ℕ) × IsNextChild (grown childOf setLimit es) a
+
+-- recovery with any number in the place of the most nodes: where there is a tree of as many as are allowed, and a next child in it, no other number is
+pub record OtherNodesExcluded : Type 0 where
+  pub ownNodes : (journal words : List ℕ) → holding mostNodes journal words ≡ recovering journal words
+  pub otherNodes : (es : List Event) (a : ℕ) → length (nodesOf es) ≡ mostNodes → IsNextChild (grown childOf setLimit es) a
+      → (most : ℕ) → RecoverRefusals (holding most) → most ≡ mostNodes

@@ -4,13 +4,13 @@ use mathlib.Core.Path.{_≡_}
 use mathlib.Core.Bool.{Bool, false, not}
 use mathlib.Core.List.{List, [], _∷_, _++_}
 use lib.ListN.{length, drop}
-use lib.Dec.{ltb}
+use lib.Dec.{leb, ltb}
 use Rattle.address.specs.Choice.{if_then_else_}
 use Rattle.node.specs.Node.{withLimits}
 use Rattle.block.specs.Block.{isBlock, addressesIn}
 use Rattle.journal.specs.Limits.{mostNodes}
-use Rattle.journal.specs.Replay.{Replay, known, fault, follow, bare}
-use Rattle.journal.specs.Slots.{slotsOf, isErased, spoilt, slotTaken, gapAfter, replayed}
+use Rattle.journal.specs.Replay.{isNext, Replay, known, fault, follow, bare}
+use Rattle.journal.specs.Slots.{slotsOf, isErased, spoilt, endsErased, slotTaken, gapAfter, replayed}
 use Rattle.journal.specs.Recovery.{isLength, RecoverEffect, refuseRecovery, restored, recovering}
 use Rattle.journal.specs.Record.{recordIn}
 use Rattle.journals.specs.Replays.{RecordRule, Records}
@@ -85,6 +85,35 @@ wanting most journal words =
     if not (isLength (length journal)) then refuseRecovery 12 words
     else if ltb (length words) most then refuseRecovery 10 words
     else restored (replayed journal) words
+
+-- ---- another number of nodes
+
+-- one address more, and those of a block, with any number in the place of the most nodes
+unfoldable pub takenWithin : ℕ → List ℕ → ℕ → Replay
+takenWithin most xs a =
+    if not (isNext xs a) then fault 17
+    else if leb most (length xs) then fault 14
+    else known (xs ++ (a ∷ []))
+
+unfoldable pub nextWithin : ℕ → Replay → ℕ → Replay
+nextWithin most (known xs) a = takenWithin most xs a
+nextWithin most (fault n) a = fault n
+
+unfoldable pub followWithin : ℕ → Replay → List ℕ → Replay
+followWithin most r [] = r
+followWithin most r (a ∷ xs) = followWithin most (nextWithin most r a) xs
+
+unfoldable pub slotWithin : ℕ → Bool → Replay → List ℕ → Replay
+slotWithin most gap r slot =
+    if isErased slot then r
+    else if gap then spoilt r
+    else if endsErased slot then r
+    else if isBlock slot then followWithin most r (addressesIn slot)
+    else spoilt r
+
+-- recovery that allows so many nodes
+unfoldable pub holding : ℕ → RecoverRule
+holding most = replaying (takingAll (slotWithin most)) restored
 
 -- ---- another record
 
