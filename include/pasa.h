@@ -365,6 +365,7 @@ struct pasa_plan pasa_plan_read(const uint8_t *text, size_t text_length, uint64_
  * leaves every other byte of the journal as it was. Each address must be the next child of a node that the journal or the block holds before it.
  * Refusals: 12 for a journal that is not 1 to PASA_SLOTS whole slots, or another number of addresses; 14 or 17 where recovery answers that for the
  * journal, and then where it would with this block behind the written slots, also where no slot is left for it; 10 where no slot is erased.
+ * It takes 33 KiB of stack, for PASA_NODES words of its own (docs/LINKING.md).
  * Where the storage is not the journal lent, copy the slot that is answered, in order and byte 511 last (docs/JOURNAL.md). */
 struct pasa_block pasa_journal_write(uint8_t *journal, size_t journal_length, const uint64_t *addresses, size_t addresses_length);
 

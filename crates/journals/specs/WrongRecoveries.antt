@@ -1,4 +1,4 @@
--- Wrong recoveries, which the claims must exclude: each goes by the right one with one part exchanged.
+-- Wrong recoveries, which the claims must exclude: each goes by the right one with one part or one number exchanged.
 use Prim.Native.Nat.{ℕ}
 use mathlib.Core.Path.{_≡_}
 use mathlib.Core.Bool.{Bool, false, not}
