@@ -87,8 +87,9 @@ pub record LargeJournals : Type 0 where
       → (journal : List ℕ) × AreOctets journal × IsLength (length journal) × Holds (slotsOf journal) (givenIn childOf setLimit es ++ (a ∷ []))
   pub nextOne : (a : ℕ) × IsNextChild (treeOf (map asking (requests (largestWith none)))) a
 
--- our rules with any numbers in the place of a plan's bytes and nodes (plan, WrongRules) and of recovery's nodes and words (journals,
--- WrongRecoveries): ours are allowed, and no others
+-- our rules with any numbers in the place of a plan's bytes and nodes (plan, WrongRules), of recovery's nodes, and of its words (journals,
+-- WrongRecoveries): ours are allowed, and no others. Whatever differs in more than that is excluded too (Excluded, `OnePlanRule`; Journals,
+-- `OneJournalRule`).
 pub record NoOtherLimits : Type 0 where
   pub ofThese : (text words : List ℕ) → planningWithin 32768 4096 text words ≡ planning text words
   pub ofOthers : (bytes most : ℕ) → PlanRefusals (planningWithin bytes most) → (bytes ≡ 32768) × (most ≡ 4096)

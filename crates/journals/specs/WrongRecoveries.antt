@@ -121,7 +121,7 @@ holding most = replaying (takingAll (slotWithin most)) restored
 unfoldable pub closedRecords : RecordRule
 closedRecords words a = record { node = withLimits 0 0 (recordIn words a .node); found = recordIn words a .found }
 
--- that none of them is allowed; of those that want some number of words, recovery itself alone
+-- that none of them is allowed; of those that want some number of words, recovery itself alone. `holding` stands in Full.
 pub record WrongRecoveriesExcluded : Type 0 where
   -- with recovery's own parts they are recovery
   pub ownEnd : (journal words : List ℕ) → replaying replayed restored journal words ≡ recovering journal words
