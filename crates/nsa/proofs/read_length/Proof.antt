@@ -1,0 +1,73 @@
+-- `nsa::read_length` meets its contract: each return is one case of the definition by the tests on its way. Assumes nothing.
+use mathlib.Core.Path.{sym, _∙_}
+use Prim.Native.Nat.{_<_}
+use native.Mathlib.Omega.{arith}
+use lib.ListN.{getD}
+use Rattle.nsa.proofs.Cases.{lengthReading-absent, lengthReading-alone, lengthReading-one, lengthReading-two, lengthReading-reserved}
+use borrow.Author.Needs.{needs}
+use Rattle.nsa.proofs.read_length.Statement.{statement}
+use Rattle.nsa.proofs.read_length.Tie as tie
+use Rattle.nsa.proofs.read_length.Reads as reads
+use Rattle.nsa.proofs.read_length.Lts as lts
+use Rattle.nsa.proofs.read_number.Reads as read-number-reads
+use Rattle.nsa.proofs.refused.Reads as refused-reads
+
+refused-requires : tie.Need-refused-requires
+refused-requires c κs = search needs
+
+returns : tie.Need-returns
+returns c = c .refused .ensures ∙ sym (lengthReading-absent (c .before .before .before .args .field .now) (c .before .if1 .taken))
+
+shared-slice-read-first : tie.Need-shared-slice-read-first
+shared-slice-read-first c = search needs
+
+cast-t7 : tie.Need-cast-t7
+cast-t7 c = search needs
+
+returns-2 : tie.Need-returns-2
+returns-2 c = sym (lengthReading-alone (c .before .before .before .before .args .field .now) (c .before .before .if1 .left) (c .if2 .taken))
+
+read-number-requires : tie.Need-read-number-requires
+read-number-requires c κs = search needs
+
+returns-3 : tie.Need-returns-3
+returns-3 c =
+    let test = c .before in
+    let first = test .before .before .before in
+    c .read-number .ensures ∙ sym (lengthReading-one (first .before .before .args .field .now) (first .if1 .left) (test .if3 .taken))
+
+read-number-requires-2 : tie.Need-read-number-requires-2
+read-number-requires-2 c κs = search needs
+
+returns-4 : tie.Need-returns-4
+returns-4 c =
+    let test = c .before in
+    let first = test .before .before .before .before in
+    c .read-number2 .ensures ∙ sym (lengthReading-two (first .before .before .args .field .now) (first .if1 .left) (test .if4 .taken))
+
+refused-requires-2 : tie.Need-refused-requires-2
+refused-requires-2 c κs = search needs
+
+returns-5 : tie.Need-returns-5
+returns-5 c =
+    let test = c .before in
+    let first = test .before .before .before .before in
+    let p = first .before .before .args .field .now in
+    let above : 254 < getD p 0 0 = omega (arith, test .before .before .if2 .left, test .before .if3 .left, test .if4 .left) in
+    c .refused2 .ensures ∙ sym (lengthReading-reserved p (first .if1 .left) above)
+
+pub read-length-spec : {M : Type 1} → statement M
+read-length-spec =
+    tie.close
+    (tie.spec
+    refused-requires
+    returns
+    shared-slice-read-first
+    cast-t7
+    returns-2
+    read-number-requires
+    returns-3
+    read-number-requires-2
+    returns-4
+    refused-requires-2
+    returns-5)
