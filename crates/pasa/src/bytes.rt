@@ -30,7 +30,7 @@ pub struct PasaAddress {
     pub refusal: u8,
 }
 
-fn pasa_written(written: Written) -> PasaWritten
+pub fn pasa_written(written: Written) -> PasaWritten
     ensures { λ r. ⌜ r ≡ pasaWritten written ⌝ }
 {
     PasaWritten {

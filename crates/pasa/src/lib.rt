@@ -6,6 +6,7 @@
 pub mod addresses;
 pub mod bytes;
 pub mod children;
+pub mod fields;
 pub mod forwarding;
 pub mod journals;
 pub mod paths;
