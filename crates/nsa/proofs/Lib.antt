@@ -2,3 +2,12 @@
 pub mod Writing
 pub mod Cases
 pub mod Row
+pub mod BackAndForth
+pub mod WriteRefusals
+pub mod Demand2
+pub mod Forms
+pub mod ReadRefusals
+pub mod OneRule
+pub mod WrongWriters
+pub mod WrongReaders
+pub mod Promises

@@ -1,0 +1,43 @@
+-- Wrong readers, which the statement of demand 2 or of demand 1 must exclude.
+use mathlib.Core.Bool.{_&&_}
+use Prim.Native.Nat.{_+_, _-_}
+use lib.Dec.{eqb, ltb, leb}
+use lib.ListN.{length, take, drop, getD}
+use Rattle.address.specs.Choice.{if_then_else_}
+use Rattle.octets.specs.Octets.{value}
+use Rattle.nsa.specs.Fields.{found, refusedFields, lengthReading, reading}
+use Rattle.nsa.specs.RoundTrip.{FieldsReader}
+
+-- it takes a source in the two octets after 253 also where one would do, before a destination in one octet; right otherwise
+unfoldable pub longerFieldsReader : FieldsReader
+longerFieldsReader p =
+    if ltb (getD p 0 0) 253 && eqb (getD p 1 0) 253 && ltb 0 (value (take 2 (drop 2 p))) && ltb 0 (getD p 4 0) && ltb (getD p 4 0) 253
+    then found (getD p 0 0) (value (take 2 (drop 2 p))) (getD p 4 0) 5
+    else reading p
+
+-- the plus of 252 forgotten; right otherwise
+unfoldable pub unaddedFieldsReader : FieldsReader
+unaddedFieldsReader p =
+    if eqb (reading p .refusal) 0 && ltb 252 (reading p .length)
+    then found (reading p .length - 252) (reading p .source) (reading p .destination) (reading p .place)
+    else reading p
+
+-- it looks for a source's octets before it judges their number; right otherwise
+unfoldable pub lateLengthFieldsReader : FieldsReader
+lateLengthFieldsReader p =
+    if ltb (getD p 0 0) 253 && eqb (getD p 1 0) 255 && ltb (length p) (3 + getD p 2 0) then refusedFields 4
+    else reading p
+
+-- 9 also for a source of longer zeros; right otherwise
+unfoldable pub longZerosNineReader : FieldsReader
+longZerosNineReader p =
+    if ltb (getD p 0 0) 253 && eqb (getD p 1 0) 253 && leb 4 (length p) && eqb (value (take 2 (drop 2 p))) 0 then refusedFields 9
+    else reading p
+
+-- it waits for an octet after a payload length's 255; right otherwise
+unfoldable pub lateReservedReader : FieldsReader
+lateReservedReader p = if eqb (length p) 1 && eqb (getD p 0 0) 255 then refusedFields 4 else reading p
+
+-- the last faulty field decides: no destination is 4, whatever the source; right otherwise
+unfoldable pub lastFieldReader : FieldsReader
+lastFieldReader p = if eqb (lengthReading p .refusal) 0 && eqb (length p) (lengthReading p .size + 1) then refusedFields 4 else reading p
