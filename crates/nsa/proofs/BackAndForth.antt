@@ -7,12 +7,12 @@ use native.Mathlib.Decide.{ℕ-discrete, decLt}
 use native.Mathlib.Nat.{lt-of-lt-of-le, pow-le-pow-right}
 use native.Mathlib.Omega.{arith}
 use lib.Dec.{lit<}
-use lib.ListN.{length, take, drop, getD, length-append, length-take, length-drop, take-append-drop}
+use lib.ListN.{length, take, drop, length-append, length-drop}
 use lib.Seq.{take-at, take-add, drop-append-seam, length-take-le}
 use Rattle.address.specs.Bits.{longest}
 use Rattle.address.specs.Numbers.{IsAddress}
 use Rattle.octets.specs.Octets.{octets, value, AreOctets}
-use Rattle.octets.proofs.OctetLaws.{length-octets, value-octets-of-lt, octets-value, value-lt, value-fits, take-octets, drop-octets}
+use Rattle.octets.proofs.OctetLaws.{length-octets, value-octets-of-lt, octets-value, value-lt, take-octets, drop-octets}
 use Rattle.nsa.specs.Fields.{lengthField, longOctets, addressField, longestPayload, Field, field, refusedField, numberReading, lengthReading, countedReading, addressReading}
 use Rattle.nsa.proofs.Writing.{lengthField-alone, lengthField-one, lengthField-two, addressField-alone, addressField-two, addressField-four, addressField-counted, longOctets-five, longOctets-six, longOctets-seven, longOctets-eight, longOctets-bounds, length-behind, length-counted}
 use Rattle.nsa.proofs.Cases.{numberReading-missing, numberReading-low, numberReading-found, lengthReading-absent, lengthReading-alone, lengthReading-one, lengthReading-two, lengthReading-reserved, countedReading-absent, countedReading-few, countedReading-many, countedReading-right, addressReading-absent, addressReading-zero, addressReading-alone, addressReading-two, addressReading-four, addressReading-counted}
@@ -62,7 +62,6 @@ abbrev Tells : (ℕ → List ℕ) → (List ℕ → Field) → ℕ → List ℕ 
 Tells form reading n rest = reading (form n ++ rest) ≡ field n (length (form n))
 
 pub length-put : (n : ℕ) (rest : List ℕ) → n ≤ longestPayload → Tells lengthField lengthReading n rest
-unfolding octets
 length-put n rest most = go (decLt n 253) (decLt n 508)
   where
     go : Dec (n < 253) → Dec (n < 508) → Tells lengthField lengthReading n rest
@@ -70,7 +69,7 @@ length-put n rest most = go (decLt n 253) (decLt n 508)
         let e = lengthField-alone n h in
         ap (λ (f : List ℕ). lengthReading (f ++ rest)) e
         ∙ lengthReading-alone (n ∷ rest) (omega arith) h
-        ∙ ap (field n) (sym (length-behind n 0 0 e))
+        ∙ ap (field n) (sym (ap length e))
     go (no l) (yes h) =
         let e = lengthField-one n (omega arith) h in
         let p : List ℕ = 253 ∷ (octets 1 (n - 252) ++ rest) in
@@ -89,7 +88,6 @@ length-put n rest most = go (decLt n 253) (decLt n 508)
         ∙ ap₂ field back (sym (length-behind 254 2 (n - 252) e))
 
 pub address-put : (a : ℕ) (rest : List ℕ) → IsAddress a → Tells addressField addressReading a rest
-unfolding octets
 address-put a rest address = go (decLt a 253) (decLt a (256 ^ 2)) (decLt a (256 ^ 4))
   where
     same : a + 0 ≡ a
@@ -100,7 +98,7 @@ address-put a rest address = go (decLt a 253) (decLt a (256 ^ 2)) (decLt a (256 
         let e = addressField-alone a h in
         ap (λ (f : List ℕ). addressReading (f ++ rest)) e
         ∙ addressReading-alone (a ∷ rest) (omega arith) (λ z. omega (arith, address .some)) h
-        ∙ ap (field a) (sym (length-behind a 0 0 e))
+        ∙ ap (field a) (sym (ap length e))
     go (no l) (yes h) four =
         let e = addressField-two a (omega arith) h in
         ap (λ (f : List ℕ). addressReading (f ++ rest)) e
@@ -164,7 +162,6 @@ marked o mark count n os e form held = ap₂ (λ (x : ℕ) (l : List ℕ). x ∷
 
 pub length-read : (p : List ℕ) → AreOctets p → lengthReading p .refusal ≡ 0
     → (lengthReading p .number ≤ longestPayload) × Written lengthField (lengthReading p) p
-unfolding octets
 length-read [] all z = refused-not 3 z (lengthReading-absent [] (omega arith))
 length-read (o ∷ os) all z = go (decLt o 253) (ℕ-discrete o 253) (ℕ-discrete o 254)
   where
@@ -225,7 +222,6 @@ counted-read o k os e all z = go (decLt k 5) (decLt 8 k)
 
 pub address-read : (p : List ℕ) → AreOctets p → addressReading p .refusal ≡ 0
     → IsAddress (addressReading p .number) × Written addressField (addressReading p) p
-unfolding octets
 address-read [] all z = refused-not 3 z (addressReading-absent [] (omega arith))
 address-read (o ∷ os) all z = go (ℕ-discrete o 0) (decLt o 253) (ℕ-discrete o 253) (ℕ-discrete o 254)
   where

@@ -2,10 +2,10 @@
 -- it has and which number (`length-form-end`, `address-form-end`), and how many octets a number needs follows from what they hold. Assumes nothing.
 use mathlib.Core.Path.{_≡_, refl, sym, ap, ap₂, _∙_, subst}
 use mathlib.Core.Logic.{_⊎_, inl, inr}
-use mathlib.Core.List.{List, [], _∷_, _++_}
-use Prim.Native.Nat.{ℕ, suc, _+_, _*_, _-_, _^_, _≤_, _<_}
+use mathlib.Core.List.{List, _∷_, _++_}
+use Prim.Native.Nat.{ℕ, _+_, _-_, _^_, _≤_, _<_}
 use native.Mathlib.Decide.{ℕ-discrete, decLt, decLe}
-use native.Mathlib.Nat.{lt-of-lt-of-le, lt-of-le-of-lt, le-trans, pow-le-pow-right}
+use native.Mathlib.Nat.{pow-le-pow-right}
 use native.Mathlib.Omega.{arith}
 use borrow.Author.Tests.{lt-ltb}
 use mathlib.Core.Bool.{true}
@@ -15,7 +15,7 @@ use Rattle.address.specs.Choice.{if_then_else_}
 use Rattle.address.specs.Bits.{longest}
 use Rattle.octets.specs.Octets.{octets, value, AreOctets}
 use Rattle.octets.proofs.OctetLaws.{length-octets, octets-octets, value-octets-of-lt, octets-value, value-lt}
-use Rattle.nsa.specs.Fields.{lengthField, longOctets, addressField, fields, longestPayload}
+use Rattle.nsa.specs.Fields.{lengthField, longOctets, addressField, longestPayload}
 use Rattle.nsa.specs.Forms.{LengthForm, lengthAlone, lengthOne, lengthTwo, AddressForm, addressAlone, addressTwo, addressFour, addressCounted, ShortestLengths, ShortestAddresses, AtMost23}
 use Rattle.nsa.specs.Refusals.{lengthEnd, addressEnd}
 use Rattle.nsa.proofs.Writing.{lengthField-alone, lengthField-one, lengthField-two, addressField-alone, addressField-two, addressField-four, addressField-counted, longOctets-five, longOctets-six, longOctets-seven, longOctets-eight, longOctets-bounds, length-behind, length-counted, length-lengthField, length-addressField, length-fields}
@@ -33,7 +33,6 @@ rest-number k rest are many =
 -- ---- payload lengths
 
 pub length-form : (n : ℕ) → n ≤ longestPayload → LengthForm (lengthField n) n
-unfolding octets
 length-form n most = go (decLt n 253) (decLt n 508)
   where
     go : Dec (n < 253) → Dec (n < 508) → LengthForm (lengthField n) n
@@ -46,7 +45,6 @@ length-form n most = go (decLt n 253) (decLt n 508)
         lengthTwo (octets 2 (n - 252)) are many (lengthField-two n (omega arith)) (omega arith)
 
 length-shortest : (n : ℕ) (os : List ℕ) → LengthForm os n → (os ≡ lengthField n) ⊎ (length (lengthField n) < length os)
-unfolding octets
 length-shortest n os (lengthAlone h e) = inl (e ∙ sym (lengthField-alone n (omega arith)))
 length-shortest n os (lengthOne rest are many e number) = go (decLt n 253)
   where
@@ -54,7 +52,7 @@ length-shortest n os (lengthOne rest are many e number) = go (decLt n 253)
     long = omega (arith, ap length e)
 
     go : Dec (n < 253) → (os ≡ lengthField n) ⊎ (length (lengthField n) < length os)
-    go (yes h) = inr (omega (arith, length-behind n 0 0 (lengthField-alone n h), long))
+    go (yes h) = inr (omega (arith, ap length (lengthField-alone n h), long))
     go (no h) =
         let (less, held) = rest-number 1 rest are many in
         let left : n - 252 ≡ value rest = omega arith in
@@ -65,7 +63,7 @@ length-shortest n os (lengthTwo rest are many e number) = go (decLt n 253) (decL
     long = omega (arith, ap length e)
 
     go : Dec (n < 253) → Dec (n < 508) → (os ≡ lengthField n) ⊎ (length (lengthField n) < length os)
-    go (yes h) two = inr (omega (arith, length-behind n 0 0 (lengthField-alone n h), long))
+    go (yes h) two = inr (omega (arith, ap length (lengthField-alone n h), long))
     go (no l) (yes h) = inr (omega (arith, length-behind 253 1 (n - 252) (lengthField-one n (omega arith) h), long))
     go (no l) (no m) =
         let (less, held) = rest-number 2 rest are many in
@@ -83,7 +81,6 @@ shortest-lengths = record { aForm = length-form; shortest = length-shortest; non
 -- ---- addresses
 
 pub address-form : (a : ℕ) → a < 2 ^ longest → AddressForm (addressField a) a
-unfolding octets
 address-form a fits = go (decLt a 253) (decLt a (256 ^ 2)) (decLt a (256 ^ 4))
   where
     go : Dec (a < 253) → Dec (a < 256 ^ 2) → Dec (a < 256 ^ 4) → AddressForm (addressField a) a
@@ -122,7 +119,7 @@ size-two : (a : ℕ) → a < 256 ^ 2 → length (addressField a) ≤ 3
 size-two a h = go (decLt a 253)
   where
     go : Dec (a < 253) → length (addressField a) ≤ 3
-    go (yes l) = omega (arith, length-behind a 0 0 (addressField-alone a l))
+    go (yes l) = omega (arith, ap length (addressField-alone a l))
     go (no l) = omega (arith, length-behind 253 2 a (addressField-two a (omega arith) h))
 
 size-four : (a : ℕ) → a < 256 ^ 4 → length (addressField a) ≤ 5
@@ -140,7 +137,7 @@ size-counted a k h = go (decLt a 253) (decLt a (256 ^ 2)) (decLt a (256 ^ 4)) (d
     more j l f = omega (arith, pow-le-pow-right {n = 256} (lit< tt) f)
 
     go : Dec (a < 253) → Dec (a < 256 ^ 2) → Dec (a < 256 ^ 4) → Dec (k ≤ 0) → Dec (k ≤ 2) → length (addressField a) ≤ 2 + k
-    go (yes l) two four none few = omega (arith, length-behind a 0 0 (addressField-alone a l))
+    go (yes l) two four none few = omega (arith, ap length (addressField-alone a l))
     go (no l) two four (yes f) few = absurd (more 0 (omega arith) f)
     go (no l) (yes two) four (no f) few = omega (arith, size-two a two)
     go (no l) (no two) four (no f) (yes g) = absurd (more 2 (omega arith) g)
@@ -148,8 +145,7 @@ size-counted a k h = go (decLt a 253) (decLt a (256 ^ 2)) (decLt a (256 ^ 4)) (d
     go (no l) (no two) (no four) (no f) (no g) = omega (arith, length-counted a (omega arith), long-least a k h (omega arith))
 
 address-shortest : (a : ℕ) (os : List ℕ) → AddressForm os a → length (addressField a) ≤ length os
-unfolding octets
-address-shortest a os (addressAlone h e) = omega (arith, ap length e, length-behind a 0 0 (addressField-alone a (omega arith)))
+address-shortest a os (addressAlone h e) = omega (arith, ap length e, ap length (addressField-alone a (omega arith)))
 address-shortest a os (addressTwo rest are many e number) = omega (arith, ap length e, size-two a (omega (arith, rest-number 2 rest are many .0)))
 address-shortest a os (addressFour rest are many e number) = omega (arith, ap length e, size-four a (omega (arith, rest-number 4 rest are many .0)))
 address-shortest a os (addressCounted rest are some e number) =
@@ -160,12 +156,11 @@ abbrev Ours : ℕ → List ℕ → Type 0
 Ours a os = (os ≡ addressField a) ⊎ ((length (addressField a) < length os) ⊎ ((rest : List ℕ) × (os ≡ 255 ∷ length rest ∷ rest) × (length rest < 5)))
 
 address-only : (a : ℕ) (os : List ℕ) → AddressForm os a → Ours a os
-unfolding octets
 address-only a os (addressAlone h e) = inl (e ∙ sym (addressField-alone a (omega arith)))
 address-only a os (addressTwo rest are many e number) = go (decLt a 253)
   where
     go : Dec (a < 253) → Ours a os
-    go (yes h) = inr (inl (omega (arith, ap length e, length-behind a 0 0 (addressField-alone a h))))
+    go (yes h) = inr (inl (omega (arith, ap length e, ap length (addressField-alone a h))))
     go (no h) =
         let (less, held) = rest-number 2 rest are many in
         inl (e ∙ ap (λ (l : List ℕ). 253 ∷ l) (sym (ap (octets 2) number ∙ held)) ∙ sym (addressField-two a (omega arith) (omega arith)))

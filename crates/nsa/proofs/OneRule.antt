@@ -7,8 +7,7 @@ use native.Mathlib.Decide.{ℕ-discrete}
 use lib.ListN.{length, take, drop}
 use lib.Seq.{take-at, drop-at}
 use Rattle.octets.specs.Octets.{AreOctets, WriteEffect}
-use Rattle.nsa.specs.Fields.{FieldsAnswer, writing, reading}
-use Rattle.nsa.specs.Forms.{LengthForm, AddressForm}
+use Rattle.nsa.specs.Fields.{writing, reading}
 use Rattle.nsa.specs.RoundTrip.{FieldsWriter, FieldsReader}
 use Rattle.nsa.specs.Refusals.{FieldsWriteRefusals, lengthEnd, addressEnd, AcceptedFields, FieldsReadRefusals}
 use Rattle.nsa.proofs.Forms.{lengthNumber, addressNumber, length-form-end, address-form-end}

@@ -3,13 +3,10 @@
 use mathlib.Core.Path.{_≡_, sym, ap, ap₂, _∙_}
 use mathlib.Core.List.{List}
 use Prim.Native.Nat.{ℕ}
-use native.Mathlib.Omega.{arith}
 use contract.Lifetimes.{Lfts}
 use denote.Ref.{RefT, now}
-use Rattle.octets.specs.Octets.{WriteEffect}
 use Rattle.address.specs.declared.Address.{Address}
 use Rattle.octets.specs.declared.Written.{Written}
-use Rattle.nsa.specs.declared.Fields.{Fields}
 use Rattle.nsa.specs.Fields.{writing, FieldsAnswer, Reading, Found, Refused, fieldsAnswer, reading}
 use Rattle.nsa.proofs.Row.{reading-refused}
 use Rattle.nsa.proofs.write.Reads as write-reads

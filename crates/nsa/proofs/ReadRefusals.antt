@@ -3,20 +3,19 @@
 use mathlib.Core.Path.{_≡_, refl, sym, ap, ap₂, _∙_, subst}
 use mathlib.Core.Logic.{_⊎_, inl, inr, Dec·and}
 use mathlib.Core.List.{List, [], _∷_, _++_, append-assoc}
-use Prim.Native.Nat.{ℕ, zero, suc, _+_, _*_, _-_, _^_, _≤_, _<_}
+use Prim.Native.Nat.{ℕ, _+_, _*_, _-_, _^_, _≤_, _<_}
 use native.Mathlib.Decide.{ℕ-discrete, decLe, decLt}
 use native.Mathlib.Omega.{arith}
 use lib.Dec.{lit<}
 use lib.ListN.{length, take, drop, getD, take-append-drop, length-drop}
 use lib.Seq.{getD-take, getD-drop, length-take-le, drop-drop}
-use Rattle.address.specs.Bits.{longest}
 use Rattle.address.specs.Order.{First, _then_}
 use Rattle.address.proofs.OrderLaws.{given-exactly, first-then, Numbered}
 use Rattle.address.proofs.Decided.{decided, one-of}
 use Rattle.octets.specs.Octets.{AreOctets, value}
 use Rattle.octets.proofs.Correspondence.{value-zeros}
 use Rattle.octets.proofs.OctetLaws.{value-snoc, take-octets, drop-octets, value-lt-of-zeros, value-ge-of-zeros}
-use Rattle.nsa.specs.Fields.{lengthField, addressField, fields, Field, field, numberReading, lengthReading, countedReading, addressReading, FieldsAnswer, found, refusedFields, sourceReading, destinationReading, reading}
+use Rattle.nsa.specs.Fields.{lengthField, addressField, fields, Field, numberReading, lengthReading, countedReading, addressReading, FieldsAnswer, refusedFields, sourceReading, destinationReading, reading}
 use Rattle.nsa.specs.Refusals.{octetAt, told, lengthOrder, lengthEnd, fieldOrder, addressEnd, behindLength, behindSource, fieldsReadingOrder, AcceptedFields, FieldsReadRefusals}
 use Rattle.nsa.proofs.Writing.{length-fields}
 use Rattle.nsa.proofs.Cases.{numberReading-missing, numberReading-low, numberReading-found, lengthReading-absent, lengthReading-alone, lengthReading-one, lengthReading-two, lengthReading-reserved, countedReading-absent, countedReading-few, countedReading-many, countedReading-right, addressReading-absent, addressReading-zero, addressReading-alone, addressReading-two, addressReading-four, addressReading-counted}

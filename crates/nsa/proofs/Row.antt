@@ -1,6 +1,5 @@
 -- What reading three fields in a row answers, case by case, and how far a field reaches. Assumes nothing.
 use mathlib.Core.Path.{_≡_, refl, sym, ap, _∙_, subst}
-use mathlib.Core.Logic.{_⊎_, inl, inr}
 use mathlib.Core.List.{List, [], _∷_}
 use Prim.Native.Nat.{ℕ, zero, suc, _+_, _*_, _-_, _^_, _≤_, _<_}
 use native.Mathlib.Decide.{ℕ-discrete, decLt}
@@ -9,7 +8,7 @@ use borrow.Author.Tests.{eq-eqb, ne-eqb}
 use lib.ListN.{length, take, drop, getD, length-drop}
 use lib.Seq.{take-all}
 use Rattle.octets.specs.Octets.{value}
-use Rattle.nsa.specs.Fields.{Field, field, refusedField, numberReading, lengthReading, countedReading, addressReading, FieldsAnswer, found, refusedFields, sourceReading, destinationReading, reading}
+use Rattle.nsa.specs.Fields.{Field, refusedField, numberReading, lengthReading, countedReading, addressReading, FieldsAnswer, found, refusedFields, sourceReading, destinationReading, reading}
 use Rattle.nsa.proofs.Cases.{numberReading-missing, numberReading-low, numberReading-found, lengthReading-absent, lengthReading-alone, lengthReading-one, lengthReading-two, lengthReading-reserved, countedReading-absent, countedReading-few, countedReading-many, countedReading-right, addressReading-absent, addressReading-zero, addressReading-alone, addressReading-two, addressReading-four, addressReading-counted}
 
 -- ---- three in a row

@@ -1,5 +1,5 @@
 -- What the fields are and what writing comes to, case by case. Assumes nothing.
-use mathlib.Core.Path.{_≡_, refl, sym, ap, ap₂, _∙_}
+use mathlib.Core.Path.{_≡_, sym, ap, ap₂, _∙_}
 use mathlib.Core.List.{List, [], _∷_, _++_, append-nil, append-assoc}
 use Prim.Native.Nat.{ℕ, suc, _+_, _-_, _^_, _≤_, _<_}
 use native.Mathlib.Decide.{decLt}
@@ -8,15 +8,15 @@ use borrow.Author.Tests.{eq-eqb, ne-eqb, lt-ltb, le-ltb}
 use borrow.Rule.Slice.PartMut.{putMid, post-is}
 use lib.ListN.{length, drop, set, length-append}
 use lib.Seq.{drop-length, take-at, drop-at, drop-drop}
-use Rattle.octets.specs.Octets.{octets, WriteEffect, refuseWriting, write}
+use Rattle.octets.specs.Octets.{octets, refuseWriting, write}
 use Rattle.octets.proofs.OctetLaws.{length-octets}
 use Rattle.nsa.specs.Fields.{lengthField, longOctets, addressField, fields, longestPayload, writing}
 
 -- ---- a field: its first octet, and a number in the octets behind it
 
 module _ (n : ℕ) where
-  pub lengthField-alone : n < 253 → lengthField n ≡ n ∷ octets 0 0
-  unfolding lengthField octets
+  pub lengthField-alone : n < 253 → lengthField n ≡ n ∷ []
+  unfolding lengthField
   lengthField-alone h = rw (lt-ltb n 253 h)
 
   pub lengthField-one : 253 ≤ n → n < 508 → lengthField n ≡ 253 ∷ octets 1 (n - 252)
@@ -28,8 +28,8 @@ module _ (n : ℕ) where
   lengthField-two l = let k : 253 ≤ n = omega arith in rw (le-ltb n 253 k, le-ltb n 508 l)
 
 module _ (a : ℕ) where
-  pub addressField-alone : a < 253 → addressField a ≡ a ∷ octets 0 0
-  unfolding addressField octets
+  pub addressField-alone : a < 253 → addressField a ≡ a ∷ []
+  unfolding addressField
   addressField-alone h = rw (lt-ltb a 253 h)
 
   pub addressField-two : 253 ≤ a → a < 256 ^ 2 → addressField a ≡ 253 ∷ octets 2 a
@@ -84,7 +84,7 @@ pub length-lengthField : (n : ℕ) → (1 ≤ length (lengthField n)) × (length
 length-lengthField n = go (decLt n 253) (decLt n 508)
   where
     go : Dec (n < 253) → Dec (n < 508) → (1 ≤ length (lengthField n)) × (length (lengthField n) ≤ 3)
-    go (yes h) two = omega (arith, length-behind n 0 0 (lengthField-alone n h))
+    go (yes h) two = omega (arith, ap length (lengthField-alone n h))
     go (no l) (yes h) = omega (arith, length-behind 253 1 (n - 252) (lengthField-one n (omega arith) h))
     go (no l) (no m) = omega (arith, length-behind 254 2 (n - 252) (lengthField-two n (omega arith)))
 
@@ -95,10 +95,16 @@ pub length-addressField : (a : ℕ) → (1 ≤ length (addressField a)) × (leng
 length-addressField a = go (decLt a 253) (decLt a (256 ^ 2)) (decLt a (256 ^ 4))
   where
     go : Dec (a < 253) → Dec (a < 256 ^ 2) → Dec (a < 256 ^ 4) → (1 ≤ length (addressField a)) × (length (addressField a) ≤ 10)
-    go (yes h) two four = omega (arith, length-behind a 0 0 (addressField-alone a h))
+    go (yes h) two four = omega (arith, ap length (addressField-alone a h))
     go (no l) (yes h) four = omega (arith, length-behind 253 2 a (addressField-two a (omega arith) h))
     go (no l) (no m) (yes h) = omega (arith, length-behind 254 4 a (addressField-four a (omega arith) h))
     go (no l) (no m) (no n) = omega (arith, length-counted a (omega arith), longOctets-bounds a)
+
+-- a slice of one octet with that stored
+pub stored : (out : List ℕ) (o : ℕ) {f : List ℕ} → f ≡ o ∷ [] → length out ≡ length f → set out 0 o ≡ f
+stored [] o e h = absurd (omega (arith, ap length e))
+stored (x ∷ []) o e h = sym e
+stored (x ∷ y ∷ out) o e h = absurd (omega (arith, ap length e))
 
 -- the buffer with its first octet stored, and the others put behind it
 pub framed : (out os : List ℕ) (o k : ℕ) → k ≡ length out → 1 ≤ k → putMid 1 (k - 1) (set out 0 o) os ≡ o ∷ os

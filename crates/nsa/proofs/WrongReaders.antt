@@ -11,7 +11,7 @@ use lib.ListN.{replicate}
 use Rattle.octets.specs.declared.Written.{Written}
 use Rattle.octets.specs.Octets.{AreOctets, value, joined, octets, write}
 use Rattle.nsa.specs.Fields.{lengthField, addressField, fields, writing, FieldsAnswer, numberReading, lengthReading, countedReading, addressReading, sourceReading, destinationReading, reading}
-use Rattle.nsa.specs.RoundTrip.{FieldsReader, FieldsRoundTrip}
+use Rattle.nsa.specs.RoundTrip.{FieldsRoundTrip}
 use Rattle.nsa.specs.Refusals.{FieldsReadRefusals}
 use Rattle.nsa.specs.WrongReaders.{longerFieldsReader, unaddedFieldsReader, lateLengthFieldsReader, longZerosNineReader, lateReservedReader, lastFieldReader}
 use Rattle.nsa.proofs.OneRule.{one-reader}

@@ -10,7 +10,7 @@ use lib.ListN.{getD, replicate}
 use Rattle.octets.specs.declared.Written.{Written}
 use Rattle.address.specs.Numbers.{IsAddress}
 use Rattle.octets.specs.Octets.{octets, WriteEffect, refuseWriting, write}
-use Rattle.nsa.specs.Fields.{lengthField, addressField, fields, writing, FieldsAnswer, lengthReading, addressReading, sourceReading, destinationReading, reading}
+use Rattle.nsa.specs.Fields.{lengthField, addressField, fields, writing, FieldsAnswer, lengthReading, addressReading, sourceReading, reading}
 use Rattle.nsa.specs.RoundTrip.{FieldsReader, FieldsRoundTrip}
 use Rattle.nsa.specs.Refusals.{FieldsWriteRefusals}
 use Rattle.nsa.specs.WrongWriters.{silentFieldsWriter, refusingFieldsWriter, roomlessFieldsWriter, spoilingFieldsWriter, longerFieldsWriter, unaddedFieldsWriter, zeroFirstFieldsWriter, roomFirstFieldsWriter}

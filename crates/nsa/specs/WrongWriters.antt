@@ -1,6 +1,6 @@
 -- Wrong writers, which the statement of demand 2 or of demand 1 must exclude.
 use mathlib.Core.Bool.{_&&_}
-use mathlib.Core.List.{[], _∷_, _++_}
+use mathlib.Core.List.{_∷_, _++_}
 use lib.Dec.{eqb, ltb, leb}
 use lib.ListN.{length, take, set}
 use Rattle.address.specs.Choice.{if_then_else_}

@@ -113,7 +113,7 @@ fn put_length(payload: u64, out: &mut [u8])
     ensures { λ _. ⌜ now (out .exit) ≡ lengthField payload ⌝ }
 {
     if payload < 253 {
-        put_behind(payload as u8, 0, out);
+        out[0] = payload as u8;
         return;
     }
     if payload < 508 {
@@ -129,7 +129,7 @@ fn put_address(address: u64, out: &mut [u8])
     ensures { λ _. ⌜ now (out .exit) ≡ addressField address ⌝ }
 {
     if address < 253 {
-        put_behind(address as u8, 0, out);
+        out[0] = address as u8;
         return;
     }
     if address < 0x1_0000 {

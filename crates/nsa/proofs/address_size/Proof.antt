@@ -1,12 +1,14 @@
 -- `nsa::address_size` meets its contract: each return is one case of the field by the tests on its way. Assumes nothing.
+use mathlib.Core.Path.{ap}
 use native.Mathlib.Omega.{arith}
+use lib.ListN.{length}
 use Rattle.nsa.proofs.Writing.{addressField-alone, addressField-two, addressField-four, longOctets-bounds, length-counted, length-behind}
 use borrow.Author.Needs.{needs}
 use Rattle.nsa.proofs.address_size.Statement.{statement}
 use Rattle.nsa.proofs.address_size.Tie as tie
 
 returns : tie.Need-returns
-returns c = let a = c .before .args .address in omega (arith, length-behind a 0 0 (addressField-alone a (c .if1 .taken)))
+returns c = let a = c .before .args .address in omega (arith, ap length (addressField-alone a (c .if1 .taken)))
 
 returns-2 : tie.Need-returns-2
 returns-2 c =

@@ -1,44 +1,35 @@
--- `nsa::put_address` meets its contract: each case of the field is its first octet and a number behind it, or 255 and such octets; the slice has
--- its length. Assumes nothing.
+-- `nsa::put_address` meets its contract: each case of the field is one octet, or a mark and a number behind it, after 255 with its length between;
+-- the slice has its length. Assumes nothing.
 use mathlib.Core.Path.{_≡_, refl, sym, ap, ap₂, _∙_}
 use mathlib.Core.List.{List, _∷_}
-use Prim.Native.Nat.{ℕ, suc, _-_, _+_, _≤_}
+use Prim.Native.Nat.{ℕ, _-_, _+_}
 use native.Mathlib.Omega.{arith}
 use lib.ListN.{length, set, length-set, length-take, length-drop}
 use borrow.Rule.Slice.PartMut.{mid-len}
 use Rattle.octets.specs.Octets.{octets}
 use Rattle.nsa.specs.Fields.{longOctets, addressField}
-use Rattle.nsa.proofs.Writing.{addressField-alone, addressField-two, addressField-four, addressField-counted, longOctets-bounds, length-counted, length-behind, refill, framed}
+use Rattle.nsa.proofs.Writing.{addressField-alone, addressField-two, addressField-four, addressField-counted, longOctets-bounds, length-counted, length-addressField, length-behind, refill, stored, framed}
 use borrow.Author.Needs.{needs}
 use Rattle.nsa.proofs.put_address.Statement.{statement}
 use Rattle.nsa.proofs.put_address.Tie as tie
-use Rattle.nsa.proofs.put_address.Reads as reads
-use Rattle.nsa.proofs.put_address.Lts as lts
-use Rattle.nsa.proofs.put_behind.Reads as put-behind-reads
 
-cast-put-behind : tie.Need-cast-put-behind
-cast-put-behind c = search needs
+cast-out : tie.Need-cast-out
+cast-out c = search needs
 
-put-behind-requires : tie.Need-put-behind-requires
-put-behind-requires c κs =
-    let test = c .before in
-    let at = test .before .before in
-    let a = at .args .address in
-    omega (arith, at .pre, length-behind a 0 0 (addressField-alone a (test .if1 .taken)))
+slice-write-out : tie.Need-slice-write-out
+slice-write-out c = omega (arith, c .before .before .pre, length-addressField (c .before .before .args .address))
 
 same-length : tie.Need-same-length
 same-length c = search needs
 
 returns : tie.Need-returns
 returns c =
-    let put = c .before .before in
-    let test = put .before .before in
-    let at = test .before .before in
+    let at = c .before .before in
     let a = at .args .address in
-    put .put-behind .ensures ∙ ap (λ (k : ℕ). a ∷ octets (k - 1) 0) (at .pre) ∙ refill a 0 0 (addressField-alone a (test .if1 .taken))
+    stored (at .args .out .now) a (addressField-alone a (c .if1 .taken)) (at .pre)
 
-put-behind-requires-2 : tie.Need-put-behind-requires-2
-put-behind-requires-2 c κs =
+put-behind-requires : tie.Need-put-behind-requires
+put-behind-requires c κs =
     let test = c .before in
     let at = test .before .before .before in
     let a = at .args .address in
@@ -53,12 +44,12 @@ returns-2 c =
     let test = put .before .before in
     let at = test .before .before .before in
     let a = at .args .address in
-    put .put-behind2 .ensures
+    put .put-behind .ensures
     ∙ ap (λ (k : ℕ). 253 ∷ octets (k - 1) a) (at .pre)
     ∙ refill 253 2 a (addressField-two a (test .before .if1 .left) (test .if2 .taken))
 
-put-behind-requires-3 : tie.Need-put-behind-requires-3
-put-behind-requires-3 c κs =
+put-behind-requires-2 : tie.Need-put-behind-requires-2
+put-behind-requires-2 c κs =
     let test = c .before in
     let at = test .before .before .before .before in
     let a = at .args .address in
@@ -73,7 +64,7 @@ returns-3 c =
     let test = put .before .before in
     let at = test .before .before .before .before in
     let a = at .args .address in
-    put .put-behind3 .ensures
+    put .put-behind2 .ensures
     ∙ ap (λ (k : ℕ). 254 ∷ octets (k - 1) a) (at .pre)
     ∙ refill 254 4 a (addressField-four a (test .before .if2 .left) (test .if3 .taken))
 
@@ -87,14 +78,14 @@ counted-length c =
     let a = at .args .address in
     at .pre ∙ length-counted a (c .if3 .left)
 
-slice-write-out : tie.Need-slice-write-out
-slice-write-out c = omega (arith, counted-length c)
+slice-write-out-2 : tie.Need-slice-write-out-2
+slice-write-out-2 c = omega (arith, counted-length c)
 
 sub-put-behind : tie.Need-sub-put-behind
 sub-put-behind c = omega (arith, counted-length c)
 
-cast-put-behind-2 : tie.Need-cast-put-behind-2
-cast-put-behind-2 c = omega (arith, counted-length c, longOctets-bounds (c .before .before .before .before .args .address))
+cast-put-behind : tie.Need-cast-put-behind
+cast-put-behind c = omega (arith, counted-length c, longOctets-bounds (c .before .before .before .before .args .address))
 
 sub-put-behind-2 : tie.Need-sub-put-behind-2
 sub-put-behind-2 c = omega (arith, counted-length c)
@@ -105,11 +96,11 @@ part-put-behind-start c = omega (arith, counted-length c)
 part-put-behind-end : tie.Need-part-put-behind-end
 part-put-behind-end c = search needs
 
-put-behind-requires-4 : tie.Need-put-behind-requires-4
-put-behind-requires-4 c κs = simp (length-take, length-drop, length-set) (omega (arith, counted-length (c .before)))
+put-behind-requires-3 : tie.Need-put-behind-requires-3
+put-behind-requires-3 c κs = simp (length-take, length-drop, length-set) (omega (arith, counted-length (c .before)))
 
 same-length-4 : tie.Need-same-length-4
-same-length-4 c = c .before .out4 .given .1 ∙ simp length-set
+same-length-4 c = c .before .out3 .given .1 ∙ simp length-set
 
 returns-4 : tie.Need-returns-4
 returns-4 c =
@@ -122,9 +113,9 @@ returns-4 c =
     let many = mid-len 1 end (set out 0 255) (simp length-set (omega arith)) in
     let count : end - 2 ≡ longOctets a = omega (arith, counted-length test) in
     let rest : end - 1 - 1 ≡ longOctets a = omega (arith, counted-length test) in
-    framed out (put .put-behind4 .last .1 .1 .0) 255 end refl (omega (arith, counted-length test))
+    framed out (put .put-behind3 .last .1 .1 .0) 255 end refl (omega (arith, counted-length test))
     ∙ ap (λ (os : List ℕ). 255 ∷ os)
-    (put .put-behind4 .ensures
+    (put .put-behind3 .ensures
     ∙ ap (λ (k : ℕ). (end - 2) ∷ octets (k - 1) a) many
     ∙ ap₂ (λ (j k : ℕ). j ∷ octets k a) count rest)
     ∙ sym (counted test)
@@ -133,22 +124,22 @@ pub put-address-spec : {M : Type 1} → statement M
 put-address-spec =
     tie.close
     (tie.spec
-    cast-put-behind
-    put-behind-requires
+    cast-out
+    slice-write-out
     same-length
     returns
-    put-behind-requires-2
+    put-behind-requires
     same-length-2
     returns-2
-    put-behind-requires-3
+    put-behind-requires-2
     same-length-3
     returns-3
-    slice-write-out
+    slice-write-out-2
     sub-put-behind
-    cast-put-behind-2
+    cast-put-behind
     sub-put-behind-2
     part-put-behind-start
     part-put-behind-end
-    put-behind-requires-4
+    put-behind-requires-3
     same-length-4
     returns-4)

@@ -10,9 +10,6 @@ use Rattle.nsa.proofs.Writing.{framed}
 use borrow.Author.Needs.{needs}
 use Rattle.nsa.proofs.put_behind.Statement.{statement}
 use Rattle.nsa.proofs.put_behind.Tie as tie
-use Rattle.nsa.proofs.put_behind.Reads as reads
-use Rattle.nsa.proofs.put_behind.Lts as lts
-use Rattle.octets.proofs.put.Reads as put-reads
 
 slice-write-out : tie.Need-slice-write-out
 slice-write-out c = search needs

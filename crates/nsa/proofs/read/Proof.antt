@@ -9,11 +9,6 @@ use Rattle.nsa.proofs.Row.{reading-length, reading-source, reading-dest
 use borrow.Author.Needs.{needs}
 use Rattle.nsa.proofs.read.Statement.{statement}
 use Rattle.nsa.proofs.read.Tie as tie
-use Rattle.nsa.proofs.read.Reads as reads
-use Rattle.nsa.proofs.read.Lts as lts
-use Rattle.address.proofs.Address.of.Reads as of-reads
-use Rattle.nsa.proofs.read_address.Reads as read-address-reads
-use Rattle.nsa.proofs.read_length.Reads as read-length-reads
 
 -- ---- what the three calls answered
 

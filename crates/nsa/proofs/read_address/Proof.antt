@@ -7,11 +7,6 @@ use Rattle.nsa.proofs.Cases.{addressReading-absent, addressReading-zero
 use borrow.Author.Needs.{needs}
 use Rattle.nsa.proofs.read_address.Statement.{statement}
 use Rattle.nsa.proofs.read_address.Tie as tie
-use Rattle.nsa.proofs.read_address.Reads as reads
-use Rattle.nsa.proofs.read_address.Lts as lts
-use Rattle.nsa.proofs.read_counted.Reads as read-counted-reads
-use Rattle.nsa.proofs.read_number.Reads as read-number-reads
-use Rattle.nsa.proofs.refused.Reads as refused-reads
 
 refused-requires : tie.Need-refused-requires
 refused-requires c κs = search needs

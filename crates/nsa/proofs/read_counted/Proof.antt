@@ -11,10 +11,6 @@ use Rattle.nsa.proofs.Cases.{countedReading-absent, countedReading-few,
 use borrow.Author.Needs.{needs}
 use Rattle.nsa.proofs.read_counted.Statement.{statement}
 use Rattle.nsa.proofs.read_counted.Tie as tie
-use Rattle.nsa.proofs.read_counted.Reads as reads
-use Rattle.nsa.proofs.read_counted.Lts as lts
-use Rattle.nsa.proofs.read_number.Reads as read-number-reads
-use Rattle.nsa.proofs.refused.Reads as refused-reads
 
 refused-requires : tie.Need-refused-requires
 refused-requires c κs = search needs

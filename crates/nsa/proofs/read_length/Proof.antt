@@ -7,10 +7,6 @@ use Rattle.nsa.proofs.Cases.{lengthReading-absent, lengthReading-alone,
 use borrow.Author.Needs.{needs}
 use Rattle.nsa.proofs.read_length.Statement.{statement}
 use Rattle.nsa.proofs.read_length.Tie as tie
-use Rattle.nsa.proofs.read_length.Reads as reads
-use Rattle.nsa.proofs.read_length.Lts as lts
-use Rattle.nsa.proofs.read_number.Reads as read-number-reads
-use Rattle.nsa.proofs.refused.Reads as refused-reads
 
 refused-requires : tie.Need-refused-requires
 refused-requires c κs = search needs

@@ -2,7 +2,7 @@
 -- of 64 bits. Assumes nothing.
 use mathlib.Core.Path.{_≡_, sym, ap, _∙_, subst}
 use mathlib.Core.List.{List}
-use Prim.Native.Nat.{ℕ, _+_, _-_, _%_, _^_, _≤_, _<_}
+use Prim.Native.Nat.{ℕ, _+_, _%_, _^_, _≤_, _<_}
 use native.Mathlib.Nat.{add-sub-cancel-left}
 use native.Mathlib.Omega.{arith}
 use lib.ListN.{length, take, drop, length-take, length-drop}
@@ -13,10 +13,6 @@ use Rattle.nsa.proofs.Cases.{numberReading-missing, numberReading-low, 
 use borrow.Author.Needs.{needs}
 use Rattle.nsa.proofs.read_number.Statement.{statement}
 use Rattle.nsa.proofs.read_number.Tie as tie
-use Rattle.nsa.proofs.read_number.Reads as reads
-use Rattle.nsa.proofs.read_number.Lts as lts
-use Rattle.nsa.proofs.refused.Reads as refused-reads
-use Rattle.octets.proofs.get.Reads as get-reads
 
 add-end : tie.Need-add-end
 add-end c = search needs

@@ -6,17 +6,11 @@ use native.Mathlib.Omega.{arith}
 use borrow.Rule.Slice.PartMut.{putMid}
 use lib.ListN.{length}
 use Rattle.octets.specs.Octets.{WriteEffect, refuseWriting, write, wrote}
-use Rattle.nsa.specs.Fields.{lengthField, addressField, fields, writing}
+use Rattle.nsa.specs.Fields.{lengthField, addressField, fields}
 use Rattle.nsa.proofs.Writing.{length-lengthField, length-addressField, length-fields, put-three, writing-long, writing-zero-source, writing-zero-destination, writing-short, writing-done}
 use borrow.Author.Needs.{needs}
 use Rattle.nsa.proofs.write.Statement.{statement}
 use Rattle.nsa.proofs.write.Tie as tie
-use Rattle.nsa.proofs.write.Reads as reads
-use Rattle.nsa.proofs.write.Lts as lts
-use Rattle.nsa.proofs.address_size.Reads as address-size-reads
-use Rattle.nsa.proofs.length_size.Reads as length-size-reads
-use Rattle.nsa.proofs.put_address.Reads as put-address-reads
-use Rattle.nsa.proofs.put_length.Reads as put-length-reads
 
 -- an answer and a buffer are those of a writing
 both : {w v : WriteEffect} → w ≡ v → (v .answer ≡ w .answer) × (v .buffer ≡ w .buffer)
