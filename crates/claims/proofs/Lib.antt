@@ -5,3 +5,4 @@ mod JournalLines
 mod JournalCodeLines
 mod LimitLines
 mod LargerLines
+mod NsaLines

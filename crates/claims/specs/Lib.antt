@@ -30,3 +30,5 @@ pub mod JournalCode
 pub mod Limits
 -- request Six: halls of 4,096 nodes and texts of 32,768 bytes, one more, and no other numbers in the place of those that moved
 pub mod Larger
+-- request Seven: the older fields of NSA, both ways
+pub mod Nsa

@@ -102,7 +102,7 @@ fields-read p all z =
 -- ---- demand 2
 
 -- what is written where there is room
-wrote-fields : (l s d : ℕ) (buffer : List ℕ) → l ≤ longestPayload → IsAddress s → IsAddress d → length (fields l s d) ≤ length buffer
+pub wrote-fields : (l s d : ℕ) (buffer : List ℕ) → l ≤ longestPayload → IsAddress s → IsAddress d → length (fields l s d) ≤ length buffer
     → (writing l s d buffer .answer ≡ wrote (length (fields l s d))) × (writing l s d buffer .buffer ≡ fields l s d ++ drop (length (fields l s d)) buffer)
 unfolding write
 wrote-fields l s d buffer short source destination room =
@@ -122,33 +122,44 @@ writing-allowed l s d buffer z = go (fields-write-refusals .given l s d buffer 0
     go (inr (short, inr (some, inl (h, f)))) = absurd (omega arith)
     go (inr (short, inr (some, inr (room, f)))) = (omega arith, pos-of-ne-zero (λ e. some (inl e)), pos-of-ne-zero (λ e. some (inr e)), omega arith)
 
--- wherever the fields were written, they read back, and what stood behind them still does
-where-done : (l s d : ℕ) (buffer behind : List ℕ) (k : ℕ) → s < 2 ^ longest → d < 2 ^ longest → writing l s d buffer .answer ≡ wrote k
-    → (reading (writing l s d buffer .buffer ++ behind) ≡ found l s d k)
-    × (drop k (writing l s d buffer .buffer) ≡ drop k buffer)
-    × (length (writing l s d buffer .buffer) ≡ length buffer)
-where-done l s d buffer behind k sFits dFits e =
+-- wherever the writer is done, what it wrote are the fields
+done-fields : (l s d : ℕ) (buffer : List ℕ) (k : ℕ) → writing l s d buffer .answer ≡ wrote k
+    → (k ≡ length (fields l s d)) × (writing l s d buffer .buffer ≡ fields l s d ++ drop (length (fields l s d)) buffer)
+done-fields l s d buffer k e =
+    let (count, left) = fields-write-refusals .without l s d buffer (ap (λ (w : Written). w .refusal) e) in
+    (sym (ap (λ (w : Written). w .count) e) ∙ count, left)
+
+-- and what stood behind them stands there still
+pub done-spares : (l s d : ℕ) (buffer : List ℕ) (k : ℕ) → writing l s d buffer .answer ≡ wrote k
+    → (drop k (writing l s d buffer .buffer) ≡ drop k buffer) × (length (writing l s d buffer .buffer) ≡ length buffer)
+done-spares l s d buffer k e =
+    let (end, left) = done-fields l s d buffer k e in
     let (short, sSome, dSome, room) = writing-allowed l s d buffer (ap (λ (w : Written). w .refusal) e) in
-    let source : IsAddress s = record { some = sSome; fits = sFits } in
-    let destination : IsAddress d = record { some = dSome; fits = dFits } in
-    let (answered, left) = wrote-fields l s d buffer short source destination room in
     let n = length (fields l s d) in
-    let end : k ≡ n = ap (λ (w : Written). w .count) (sym e ∙ answered) in
     let rest = drop n buffer in (
-      ap (λ (os : List ℕ). reading (os ++ behind)) left
-          ∙ ap reading (append-assoc (fields l s d) rest behind)
-          ∙ reading-fields short source destination (rest ++ behind)
-          ∙ ap (found l s d) (sym end),
       ap (drop k) left ∙ drop-at (fields l s d) rest k (sym end) ∙ ap (λ (m : ℕ). drop m buffer) (sym end),
       ap length left ∙ omega (arith, length-append (fields l s d) rest, length-drop n buffer),
     )
+
+-- and they read back, whatever stands behind them
+pub done-reads : (l s d : ℕ) (buffer behind : List ℕ) (k : ℕ) → s < 2 ^ longest → d < 2 ^ longest → writing l s d buffer .answer ≡ wrote k
+    → reading (writing l s d buffer .buffer ++ behind) ≡ found l s d k
+done-reads l s d buffer behind k sFits dFits e =
+    let (end, left) = done-fields l s d buffer k e in
+    let (short, sSome, dSome, room) = writing-allowed l s d buffer (ap (λ (w : Written). w .refusal) e) in
+    let rest = drop (length (fields l s d)) buffer in
+    ap (λ (os : List ℕ). reading (os ++ behind)) left
+    ∙ ap reading (append-assoc (fields l s d) rest behind)
+    ∙ reading-fields short (record { some = sSome; fits = sFits }) (record { some = dSome; fits = dFits }) (rest ++ behind)
+    ∙ ap (found l s d) (sym end)
 
 pub fields-round-trip : FieldsRoundTrip writing reading
 fields-round-trip = record {
   readsBack = λ l s d buffer short source destination room.
       let (answered, left) = wrote-fields l s d buffer short source destination room in
       (answered, ap reading left ∙ reading-fields short source destination (drop (length (fields l s d)) buffer));
-  whereDone = where-done;
+  whereDone = λ l s d buffer behind k sFits dFits e.
+      let (spared, long) = done-spares l s d buffer k e in (done-reads l s d buffer behind k sFits dFits e, spared, long);
   writtenSo = λ p l s d k all e.
       let read = subst (λ (x : FieldsAnswer). Read p (x .length) (x .source) (x .destination) (x .place)) e
       (fields-read p all (ap (λ (x : FieldsAnswer). x .refusal) e)) in (

@@ -2,3 +2,4 @@
 pub mod Promises
 pub mod AddressPromises
 pub mod JournalPromises
+pub mod FieldPromises
