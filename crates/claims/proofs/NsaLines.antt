@@ -1,5 +1,5 @@
 -- The lines of request Seven, each taken from the record that carries it. Assumes nothing.
-use Prim.Native.Nat.{ℕ, _+_, _-_, _^_, _≤_, _<_}
+use Prim.Native.Nat.{ℕ, _+_, _^_, _≤_, _<_}
 use mathlib.Core.Path.{_≡_, refl, ap, _∙_}
 use mathlib.Core.Logic.{_⊎_, inl, inr}
 use mathlib.Core.List.{List, [], _∷_}
@@ -7,10 +7,9 @@ use native.Mathlib.Omega.{arith}
 use borrow.Author.Tests.{lt-ltb}
 use lib.Dec.{lit<}
 use lib.ListN.{length, getD, replicate}
-use Rattle.octets.specs.Octets.{AreOctets, octets, value, joined, refuseWriting, write}
+use Rattle.octets.specs.Octets.{AreOctets, octets, value, joined, write}
 use Rattle.nsa.specs.Fields.{lengthField, longOctets, addressField, fields, writing, numberReading, lengthReading, countedReading, addressReading, sourceReading, destinationReading, fieldsAnswer, reading}
 use Rattle.nsa.specs.Forms.{LengthForm, lengthAlone, lengthOne, lengthTwo, AddressForm, addressAlone, addressTwo, addressFour, addressCounted}
-use Rattle.nsa.specs.Refusals.{lengthEnd, addressEnd}
 use Rattle.nsa.proofs.Writing.{lengthField-alone, lengthField-one, lengthField-two, addressField-alone, addressField-two, addressField-four, addressField-counted, longOctets-five, longOctets-six, longOctets-seven, longOctets-eight, writing-long}
 use Rattle.nsa.proofs.Forms.{shortest-lengths, shortest-addresses, at-most-23}
 use Rattle.nsa.proofs.WriteRefusals.{fields-write-refusals}
