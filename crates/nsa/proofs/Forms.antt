@@ -16,7 +16,7 @@ use Rattle.address.specs.Bits.{longest}
 use Rattle.octets.specs.Octets.{octets, value, AreOctets}
 use Rattle.octets.proofs.OctetLaws.{length-octets, octets-octets, value-octets-of-lt, octets-value, value-lt}
 use Rattle.nsa.specs.Fields.{lengthField, longOctets, addressField, longestPayload}
-use Rattle.nsa.specs.Forms.{LengthForm, lengthAlone, lengthOne, lengthTwo, AddressForm, addressAlone, addressTwo, addressFour, addressCounted, ShortestLengths, ShortestAddresses, AtMost23}
+use Rattle.nsa.specs.Forms.{LengthForm, lengthAlone, lengthOne, lengthTwo, AddressForm, addressAlone, addressTwo, addressFour, addressCounted, ShortestLengths, OursOrRefused, ShortestAddresses, AtMost23}
 use Rattle.nsa.specs.Refusals.{lengthEnd, addressEnd}
 use Rattle.nsa.proofs.Writing.{lengthField-alone, lengthField-one, lengthField-two, addressField-alone, addressField-two, addressField-four, addressField-counted, longOctets-five, longOctets-six, longOctets-seven, longOctets-eight, longOctets-bounds, length-behind, length-counted, length-lengthField, length-addressField, length-fields}
 use Rattle.nsa.proofs.BackAndForth.{long-in}
@@ -151,22 +151,18 @@ address-shortest a os (addressFour rest are many e number) = omega (arith, ap le
 address-shortest a os (addressCounted rest are some e number) =
     omega (arith, ap length e, size-counted a (length rest) (subst (λ (n : ℕ). n < 256 ^ length rest) (sym number) (value-lt rest are)))
 
--- ours, or longer, or with a length octet below 5
-abbrev Ours : ℕ → List ℕ → Type 0
-Ours a os = (os ≡ addressField a) ⊎ ((length (addressField a) < length os) ⊎ ((rest : List ℕ) × (os ≡ 255 ∷ length rest ∷ rest) × (length rest < 5)))
-
-address-only : (a : ℕ) (os : List ℕ) → AddressForm os a → Ours a os
+address-only : (a : ℕ) (os : List ℕ) → AddressForm os a → OursOrRefused a os
 address-only a os (addressAlone h e) = inl (e ∙ sym (addressField-alone a (omega arith)))
 address-only a os (addressTwo rest are many e number) = go (decLt a 253)
   where
-    go : Dec (a < 253) → Ours a os
+    go : Dec (a < 253) → OursOrRefused a os
     go (yes h) = inr (inl (omega (arith, ap length e, ap length (addressField-alone a h))))
     go (no h) =
         let (less, held) = rest-number 2 rest are many in
         inl (e ∙ ap (λ (l : List ℕ). 253 ∷ l) (sym (ap (octets 2) number ∙ held)) ∙ sym (addressField-two a (omega arith) (omega arith)))
 address-only a os (addressFour rest are many e number) = go (decLt a (256 ^ 2))
   where
-    go : Dec (a < 256 ^ 2) → Ours a os
+    go : Dec (a < 256 ^ 2) → OursOrRefused a os
     go (yes h) = inr (inl (omega (arith, ap length e, size-two a h)))
     go (no h) =
         let (less, held) = rest-number 4 rest are many in
@@ -179,7 +175,7 @@ address-only a os (addressCounted rest are some e number) = go (decLt (length re
     less : a < 256 ^ length rest
     less = subst (λ (n : ℕ). n < 256 ^ length rest) (sym number) (value-lt rest are)
 
-    go : Dec (length rest < 5) → Dec (a < 256 ^ 4) → Dec (longOctets a ≡ length rest) → Ours a os
+    go : Dec (length rest < 5) → Dec (a < 256 ^ 4) → Dec (longOctets a ≡ length rest) → OursOrRefused a os
     go (yes few) four same = inr (inr (rest, e, few))
     go (no few) (yes four) same = inr (inl (omega (arith, long, size-four a four)))
     go (no few) (no four) (yes same) =

@@ -37,12 +37,15 @@ pub record ShortestLengths : Type 0 where
   -- "A length to write above 65,787" has no form
   pub noneAbove : (n : ℕ) (os : List ℕ) → LengthForm os n → n ≤ longestPayload
 
--- and of an address every other form is longer, or as long with a length octet below 5: "so after 255 the length is 5 to 8"
+-- of an address: ours, or longer than ours, or with a length octet below 5: "so after 255 the length is 5 to 8"
+abbrev pub OursOrRefused : ℕ → List ℕ → Type 0
+OursOrRefused a os = (os ≡ addressField a) ⊎ ((length (addressField a) < length os) ⊎ ((rest : List ℕ) × (os ≡ 255 ∷ length rest ∷ rest) × (length rest < 5)))
+
+-- no form of an address is shorter than ours, and one that is as long has such a length octet
 pub record ShortestAddresses : Type 0 where
   pub aForm : (a : ℕ) → a < 2 ^ longest → AddressForm (addressField a) a
   pub shortest : (a : ℕ) (os : List ℕ) → AddressForm os a → length (addressField a) ≤ length os
-  pub onlyOne : (a : ℕ) (os : List ℕ) → AddressForm os a
-      → (os ≡ addressField a) ⊎ ((length (addressField a) < length os) ⊎ ((rest : List ℕ) × (os ≡ 255 ∷ length rest ∷ rest) × (length rest < 5)))
+  pub onlyOne : (a : ℕ) (os : List ℕ) → AddressForm os a → OursOrRefused a os
 
 -- the most octets of the three
 abbrev pub AtMost23 : Type 0
