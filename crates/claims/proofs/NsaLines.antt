@@ -7,21 +7,25 @@ use native.Mathlib.Omega.{arith}
 use borrow.Author.Tests.{lt-ltb}
 use lib.Dec.{lit<}
 use lib.ListN.{length, getD, replicate}
-use Rattle.octets.specs.Octets.{AreOctets, octets, value, joined, write}
+use Rattle.octets.specs.Octets.{AreOctets, octets, value, joined, refuseWriting, write}
 use Rattle.nsa.specs.Fields.{lengthField, longOctets, addressField, fields, writing, numberReading, lengthReading, countedReading, addressReading, sourceReading, destinationReading, fieldsAnswer, reading}
 use Rattle.nsa.specs.Forms.{LengthForm, lengthAlone, lengthOne, lengthTwo, AddressForm, addressAlone, addressTwo, addressFour, addressCounted}
 use Rattle.nsa.proofs.Writing.{lengthField-alone, lengthField-one, lengthField-two, addressField-alone, addressField-two, addressField-four, addressField-counted, longOctets-five, longOctets-six, longOctets-seven, longOctets-eight, writing-long}
+use Rattle.octets.proofs.Correspondence.{octets-one-to-one}
+use Rattle.nsa.specs.Refusals.{AcceptedFields}
+use Rattle.nsa.proofs.Shortest.{otherwise-six}
 use Rattle.nsa.proofs.Forms.{shortest-lengths, shortest-addresses, at-most-23}
 use Rattle.nsa.proofs.WriteRefusals.{fields-write-refusals}
 use Rattle.nsa.proofs.ReadRefusals.{fields-read-refusals}
 use Rattle.nsa.proofs.Demand2.{wrote-fields, done-reads, done-spares, fields-round-trip}
 use Rattle.nsa.proofs.OneRule.{one-writer, one-reader}
-use Rattle.nsa.proofs.WrongWriters.{silent-fields-writer-refuted, refusing-fields-writer-refuted, roomless-fields-writer-refuted, spoiling-fields-writer-refuted, longer-fields-writer-refuted, unadded-fields-writer-refuted, zero-first-fields-writer-refuted, room-first-fields-writer-refuted}
-use Rattle.nsa.proofs.WrongReaders.{longer-fields-reader-refuted, unadded-fields-reader-refuted, late-length-fields-reader-refuted, long-zeros-nine-reader-refuted, late-reserved-reader-refuted, last-field-reader-refuted}
+use Rattle.nsa.proofs.WrongWriters.{silent-fields-writer-refuted, refusing-fields-writer-refuted, roomless-fields-writer-refuted, spoiling-fields-writer-refuted, longer-fields-writer-refuted, unadded-fields-writer-refuted, zero-first-fields-writer-refuted, room-first-fields-writer-refuted, exchanging-fields-writer-refuted}
+use Rattle.nsa.proofs.WrongReaders.{longer-fields-reader-refuted, unadded-fields-reader-refuted, late-length-fields-reader-refuted, long-zeros-nine-reader-refuted, late-reserved-reader-refuted, last-field-reader-refuted, exchanging-fields-reader-refuted}
 use Rattle.nsa.proofs.Promises.{write-asks-nothing, write-promise, read-asks-nothing, read-promise, one-reading}
+use Rattle.pasa.specs.Bytes.{pasaWritten}
 use Rattle.pasa.specs.Fields.{pasaNsa}
 use Rattle.pasa.proofs.FieldPromises.{nsa-write-asks-nothing, nsa-write-promise, nsa-read-asks-nothing, nsa-read-promise}
-use Rattle.claims.specs.Nsa.{OlderFields, ShortestForms, OlderRefusals, OlderReadsBack, ValuesOfSeven, OlderCode, OlderOfAny, WrongOlder}
+use Rattle.claims.specs.Nsa.{OlderFields, ShortestForms, OlderRefusals, ThreeForms, OlderReadsBack, ValuesOfSeven, OlderCode, OlderOfAny, WrongOlder}
 
 pub older-fields : OlderFields
 unfolding fields
@@ -36,6 +40,8 @@ older-fields = record {
   addressInEight = λ a l h. counted a 6 (omega arith) (longOctets-six a l h);
   addressInNine = λ a l h. counted a 7 (omega arith) (longOctets-seven a l h);
   addressInTen = λ a l h. counted a 8 (omega arith) (longOctets-eight a l);
+  highFirst = octets-one-to-one .mostFirst;
+  octetsHold = octets-one-to-one .held;
   inARow = λ l s d. refl;
   atMost23 = at-most-23;
 }
@@ -53,6 +59,9 @@ shortest-forms = record {
   addressIsOne = shortest-addresses .aForm;
   addressIsShortest = shortest-addresses .shortest;
   addressOnlyOne = shortest-addresses .onlyOne;
+  otherLength = otherwise-six .aLength;
+  otherSource = otherwise-six .aSource;
+  otherDestination = otherwise-six .aDestination;
 }
   where
     Alone : List ℕ → ℕ → Type 0
@@ -94,10 +103,29 @@ pub older-refusals : OlderRefusals
 older-refusals = record {
   toWrite = fields-write-refusals .given;
   toRead = fields-read-refusals .given;
+  behindALength = λ p. refl;
+  behindASource = λ p. refl;
   lengthEnds = λ p. (λ h. rw (lt-ltb (getD p 0 0) 253 (omega arith)) refl, λ e. rw e refl, λ e. rw e refl);
   addressEnds = λ p. (λ h. rw (lt-ltb (getD p 0 0) 253 (omega arith)) refl, λ e. rw e refl, λ e. rw e refl, λ e. rw e refl);
   nothingWritten = fields-write-refusals .beside;
   nothingRead = fields-read-refusals .beside;
+}
+
+-- the three forms, as the page has them
+three-forms : {p : List ℕ} {l s d k : ℕ} → AcceptedFields p l s d k → ThreeForms p l s d k
+three-forms x = (x .inLength, x .inSource, x .inDestination, x .behind, x .laid, (x .length-told, x .source-told, x .destination-told, x .after))
+
+forms-three : {p : List ℕ} {l s d k : ℕ} → ThreeForms p l s d k → AcceptedFields p l s d k
+forms-three (inLength, inSource, inDestination, behind, laid, (length-told, source-told, destination-told, after)) = record {
+  inLength = inLength;
+  inSource = inSource;
+  inDestination = inDestination;
+  behind = behind;
+  laid = laid;
+  length-told = length-told;
+  source-told = source-told;
+  destination-told = destination-told;
+  after = after;
 }
 
 pub older-reads-back : OlderReadsBack
@@ -109,9 +137,7 @@ older-reads-back = record {
   sparesTheRest = done-spares;
   acceptsNumbers = λ p l s d k all e. let (short, source, destination, within, written) = fields-round-trip .writtenSo p l s d k all e in (short, source, destination, within);
   acceptsTheWritten = λ p l s d k all e. fields-round-trip .writtenSo p l s d k all e .4;
-  acceptsSo = λ p all z.
-      let x = fields-read-refusals .without p all z in
-      (x .inLength, x .inSource, x .inDestination, x .behind, x .laid, (x .length-told, x .source-told, x .destination-told, x .after));
+  acceptsSo = λ p all z. three-forms (fields-read-refusals .without p all z);
 }
 
 pub values-of-seven : ValuesOfSeven
@@ -132,9 +158,19 @@ values-of-seven = record {
   addressBelow32 = refl;
   addressOf33 = refl;
   addressBelow40 = refl;
+  addressOf41 = refl;
+  addressBelow48 = refl;
+  addressOf49 = refl;
+  addressBelow56 = refl;
+  addressOf57 = refl;
   addressBelow64 = refl;
+  fourDiffer = refl;
+  fiveDiffer = refl;
+  eightDiffer = refl;
   the23 = refl;
   fd00 = refl;
+  fdCut = refl;
+  feCut = refl;
   fe00ff = refl;
   ffAlone = refl;
   ffBefore = refl;
@@ -148,13 +184,23 @@ values-of-seven = record {
   ffNoMore = refl;
   ff0500Missing = refl;
   ff0500Whole = refl;
+  feZeros = refl;
+  ff00 = refl;
   ff01fd = refl;
+  ff03 = refl;
+  destinationZero = refl;
+  destinationFd00fc = refl;
+  destinationFf09 = refl;
+  noDestination = refl;
   sourceFirst = refl;
   aReading = λ behind. done-reads 253 252 256 (replicate 6 0) behind 6 (lit< tt) (lit< tt) refl;
+  longReading = refl;
+  exactRoom = refl;
+  oneLess = refl;
 }
 
 pub older-code : OlderCode
-unfolding fieldsAnswer pasaNsa
+unfolding fieldsAnswer pasaNsa pasaWritten
 older-code = record {
   threeFound = λ f k. refl;
   notFound = λ n. refl;
@@ -167,20 +213,21 @@ older-code = record {
   pasaNsaWrite = nsa-write-promise;
   pasaNsaReadAsks = nsa-read-asks-nothing;
   pasaNsaRead = nsa-read-promise;
+  writtenStruct = λ w. refl;
   nsaStruct = λ r. refl;
 }
 
 pub older-of-any : OlderOfAny
 older-of-any = record {
-  toWrite = λ writer. (
+  meansToWrite = λ writer. (
     λ claim. (claim .given, claim .beside, claim .without),
     λ (given, beside, without). record { given = given; beside = beside; without = without },
   );
-  toRead = λ reader. (
-    λ claim. (claim .given, claim .beside, claim .without),
-    λ (given, beside, without). record { given = given; beside = beside; without = without },
+  meansToRead = λ reader. (
+    λ claim. (claim .given, claim .beside, λ p all z. three-forms (claim .without p all z)),
+    λ (given, beside, without). record { given = given; beside = beside; without = λ p all z. forms-three (without p all z) },
   );
-  bothWays = λ writer reader. (
+  meansBothWays = λ writer reader. (
     λ claim. (claim .readsBack, claim .whereDone, claim .writtenSo),
     λ (back, done, so). record { readsBack = back; whereDone = done; writtenSo = so },
   );
@@ -203,6 +250,8 @@ wrong-older = record {
   readsUnadded = unadded-fields-reader-refuted;
   withZeroFirst = zero-first-fields-writer-refuted;
   withRoomFirst = room-first-fields-writer-refuted;
+  writesExchanged = exchanging-fields-writer-refuted;
+  readsExchanged = exchanging-fields-reader-refuted;
   withLengthLate = late-length-fields-reader-refuted;
   withNineForLong = long-zeros-nine-reader-refuted;
   withReservedLate = late-reserved-reader-refuted;

@@ -1,6 +1,8 @@
 -- Request Seven: the older fields of NSA, "three in a row: payload length, source, destination". What a field is and that it is the shortest form;
--- demand 1 and demand 2 for the three together; values on every boundary; what the code promises; and the wrong writers and readers.
-use Prim.Native.Nat.{ℕ, _+_, _-_, _^_, _≤_, _<_}
+-- demand 1 and demand 2 for the three together; values on the boundaries; what the code promises; and the wrong writers and readers. What is said with
+-- other entries is not said again: which numbers are addresses (Addresses), what an order says (Demand1), octets and `wrote` (Demand2). The `length` of an
+-- answer is the payload's, as C has it; that of a list is how many octets it has.
+use Prim.Native.Nat.{ℕ, _+_, _-_, _*_, _^_, _≤_, _<_}
 use mathlib.Core.Path.{_≡_}
 use mathlib.Core.Logic.{_⊎_, _↔_}
 use mathlib.Core.List.{List, [], _∷_, _++_}
@@ -18,9 +20,9 @@ use Rattle.nsa.specs.declared.Reading.the-variants.{Found, Refused}
 use Rattle.nsa.specs.Fields.{lengthField, addressField, fields, writing, FieldsAnswer, found, refusedFields, fieldsAnswer, reading}
 use Rattle.nsa.specs.Forms.{LengthForm, AddressForm}
 use Rattle.nsa.specs.RoundTrip.{FieldsWriter, FieldsReader, FieldsRoundTrip}
-use Rattle.nsa.specs.Refusals.{lengthEnd, addressEnd, AcceptedFields, FieldsWriteRefusals, FieldsReadRefusals}
-use Rattle.nsa.specs.WrongWriters.{silentFieldsWriter, refusingFieldsWriter, roomlessFieldsWriter, spoilingFieldsWriter, longerFieldsWriter, unaddedFieldsWriter, zeroFirstFieldsWriter, roomFirstFieldsWriter}
-use Rattle.nsa.specs.WrongReaders.{longerFieldsReader, unaddedFieldsReader, lateLengthFieldsReader, longZerosNineReader, lateReservedReader, lastFieldReader}
+use Rattle.nsa.specs.Refusals.{lengthEnd, addressEnd, behindLength, behindSource, FieldsWriteRefusals, FieldsReadRefusals}
+use Rattle.nsa.specs.WrongWriters.{silentFieldsWriter, refusingFieldsWriter, roomlessFieldsWriter, spoilingFieldsWriter, longerFieldsWriter, unaddedFieldsWriter, zeroFirstFieldsWriter, roomFirstFieldsWriter, exchangingFieldsWriter}
+use Rattle.nsa.specs.WrongReaders.{longerFieldsReader, unaddedFieldsReader, lateLengthFieldsReader, longZerosNineReader, lateReservedReader, lastFieldReader, exchangingFieldsReader}
 use Rattle.pasa.specs.declared.bytes.PasaWritten.{PasaWritten}
 use Rattle.pasa.specs.declared.fields.PasaNsa.{PasaNsa}
 use Rattle.pasa.specs.Bytes.{pasaWritten}
@@ -31,7 +33,7 @@ use Rattle.pasa.proofs.fields.pasa_nsa_write.Reads as nsa-write-reads
 use Rattle.pasa.proofs.fields.pasa_nsa_read.Reads as nsa-read-reads
 use Rattle.claims.specs.Code.{Slice}
 
--- what is written of each number
+-- what is written of each number; zero, which stands alone too, is never written as an address
 pub record OlderFields : Type 0 where
   -- "A payload length to 252 is one octet; 253 is followed by one octet and 254 by two, each plus 252"
   pub lengthInOne : (n : ℕ) → n ≤ 252 → lengthField n ≡ n ∷ []
@@ -46,6 +48,9 @@ pub record OlderFields : Type 0 where
   pub addressInEight : (a : ℕ) → 2 ^ 40 ≤ a → a < 2 ^ 48 → addressField a ≡ 255 ∷ 6 ∷ octets 6 a
   pub addressInNine : (a : ℕ) → 2 ^ 48 ≤ a → a < 2 ^ 56 → addressField a ≡ 255 ∷ 7 ∷ octets 7 a
   pub addressInTen : (a : ℕ) → 2 ^ 56 ≤ a → a < 2 ^ 64 → addressField a ≡ 255 ∷ 8 ∷ octets 8 a
+  -- "Numbers stand high octet first."
+  pub highFirst : (o : ℕ) (os : List ℕ) → value (o ∷ os) ≡ o * 256 ^ length os + value os
+  pub octetsHold : (k n : ℕ) → n < 256 ^ k → AreOctets (octets k n) × (length (octets k n) ≡ k) × (value (octets k n) ≡ n)
   -- "three in a row"
   pub inARow : (l s d : ℕ) → fields l s d ≡ lengthField l ++ (addressField s ++ addressField d)
   pub atMost23 : (l s d : ℕ) → length (fields l s d) ≤ 23
@@ -70,13 +75,19 @@ pub record ShortestForms : Type 0 where
   pub lengthIsOne : (n : ℕ) → n ≤ 65787 → LengthForm (lengthField n) n
   pub lengthIsShortest : (n : ℕ) (os : List ℕ) → LengthForm os n → (os ≡ lengthField n) ⊎ (length (lengthField n) < length os)
   pub lengthNoneAbove : (n : ℕ) (os : List ℕ) → LengthForm os n → n ≤ 65787
-  -- of an address none is shorter, and one that is as long has a length octet below 5, which document 02 refuses
+  -- of an address none is shorter, and one that is as long has a length octet below 5, as FF 01 FD beside FD 00 FD: "so after 255 the length is 5 to 8"
   pub addressIsOne : (a : ℕ) → a < 2 ^ 64 → AddressForm (addressField a) a
   pub addressIsShortest : (a : ℕ) (os : List ℕ) → AddressForm os a → length (addressField a) ≤ length os
   pub addressOnlyOne : (a : ℕ) (os : List ℕ) → AddressForm os a
       → (os ≡ addressField a) ⊎ ((length (addressField a) < length os) ⊎ ((rest : List ℕ) × (os ≡ 255 ∷ length rest ∷ rest) × (length rest < 5)))
+  -- "Only the shortest form is accepted: otherwise 6", in each of the three fields, whatever stands behind it
+  pub otherLength : (os behind : List ℕ) (n : ℕ) → LengthForm os n → (os ≡ lengthField n → ⊥) → reading (os ++ behind) ≡ refusedFields 6
+  pub otherSource : (l : ℕ) (os behind : List ℕ) (a : ℕ) → l ≤ 65787 → AddressForm os a → (os ≡ addressField a → ⊥)
+      → reading (lengthField l ++ (os ++ behind)) ≡ refusedFields 6
+  pub otherDestination : (l s : ℕ) (os behind : List ℕ) (a : ℕ) → l ≤ 65787 → IsAddress s → AddressForm os a → (os ≡ addressField a → ⊥)
+      → reading (lengthField l ++ (addressField s ++ (os ++ behind))) ≡ refusedFields 6
 
--- ---- demand 1
+-- ---- demand 1: `getD p i 0` is the i-th octet; where it is absent a 4 comes before
 
 -- "Within a field a missing octet is 4 and comes before any judgement of the value"; "255 is refused with 6"; "Only the shortest form is accepted:
 -- otherwise 6": after 253 a length to 252, after 254 one to 507
@@ -110,8 +121,8 @@ olderAddressOrder p =
 abbrev pub olderOrder : List ℕ → Order
 olderOrder p =
     olderLengthOrder p
-    then (olderAddressOrder (drop (lengthEnd p) p)
-    then olderAddressOrder (drop (addressEnd (drop (lengthEnd p) p)) (drop (lengthEnd p) p)))
+    then (olderAddressOrder (behindLength p)
+    then olderAddressOrder (behindSource p))
 
 pub record OlderRefusals : Type 0 where
   -- "A length to write above 65,787 is 14, checked first; then 9; then 10."
@@ -122,9 +133,11 @@ pub record OlderRefusals : Type 0 where
       otherwise 10 when length buffer < length (fields l s d)
       otherwise done
       ) (writing l s d buffer .answer .refusal)
-  -- of octets, which is what a buffer holds
+  -- of octets, which is what a reader is lent (OlderCode)
   pub toRead : (p : List ℕ) → AreOctets p → GivenExactly (olderOrder p) (reading p .refusal)
   -- where the next field begins
+  pub behindALength : (p : List ℕ) → behindLength p ≡ drop (lengthEnd p) p
+  pub behindASource : (p : List ℕ) → behindSource p ≡ drop (addressEnd (behindLength p)) (behindLength p)
   pub lengthEnds : (p : List ℕ) → (getD p 0 0 ≤ 252 → lengthEnd p ≡ 1) × (getD p 0 0 ≡ 253 → lengthEnd p ≡ 2) × (getD p 0 0 ≡ 254 → lengthEnd p ≡ 3)
   pub addressEnds : (p : List ℕ)
       → (getD p 0 0 ≤ 252 → addressEnd p ≡ 1) × (getD p 0 0 ≡ 253 → addressEnd p ≡ 3) × (getD p 0 0 ≡ 254 → addressEnd p ≡ 5)
@@ -136,6 +149,12 @@ pub record OlderRefusals : Type 0 where
       → (reading p .length ≡ 0) × (reading p .source ≡ 0) × (reading p .destination ≡ 0) × (reading p .place ≡ 0)
 
 -- ---- demand 2: "Whatever is accepted is what we would write, and the reverse."
+
+-- three forms of document 004 in a row, with anything behind them, and the place there
+abbrev pub ThreeForms : List ℕ → ℕ → ℕ → ℕ → ℕ → Type 0
+ThreeForms p l s d place =
+    (inLength inSource inDestination behind : List ℕ) × (p ≡ inLength ++ (inSource ++ (inDestination ++ behind)))
+    × (LengthForm inLength l × AddressForm inSource s × AddressForm inDestination d × (place ≡ length inLength + length inSource + length inDestination))
 
 pub record OlderReadsBack : Type 0 where
   -- what the answers are
@@ -155,11 +174,8 @@ pub record OlderReadsBack : Type 0 where
   -- and up to the place the octets are what we write of them into any buffer that has room
   pub acceptsTheWritten : (p : List ℕ) (l s d k : ℕ) → AreOctets p → reading p ≡ found l s d k → (buffer : List ℕ) → k ≤ length buffer
       → (writing l s d buffer .answer ≡ wrote k) × (take k (writing l s d buffer .buffer) ≡ take k p)
-  -- whatever is accepted is three forms of document 004 in a row, with anything behind them, and the place is there
   pub acceptsSo : (p : List ℕ) → AreOctets p → reading p .refusal ≡ 0
-      → (inLength inSource inDestination behind : List ℕ) × (p ≡ inLength ++ (inSource ++ (inDestination ++ behind)))
-      × (LengthForm inLength (reading p .length) × AddressForm inSource (reading p .source) × AddressForm inDestination (reading p .destination)
-      × (reading p .place ≡ length inLength + length inSource + length inDestination))
+      → ThreeForms p (reading p .length) (reading p .source) (reading p .destination) (reading p .place)
 
 -- ---- values on the boundaries
 
@@ -179,10 +195,21 @@ pub record ValuesOfSeven : Type 0 where
   pub addressBelow32 : addressField (2 ^ 32 - 1) ≡ 0xFE ∷ 0xFF ∷ 0xFF ∷ 0xFF ∷ 0xFF ∷ []
   pub addressOf33 : addressField (2 ^ 32) ≡ 0xFF ∷ 0x05 ∷ 0x01 ∷ 0x00 ∷ 0x00 ∷ 0x00 ∷ 0x00 ∷ []
   pub addressBelow40 : addressField (2 ^ 40 - 1) ≡ 0xFF ∷ 0x05 ∷ 0xFF ∷ 0xFF ∷ 0xFF ∷ 0xFF ∷ 0xFF ∷ []
+  pub addressOf41 : addressField (2 ^ 40) ≡ 0xFF ∷ 0x06 ∷ 0x01 ∷ 0x00 ∷ 0x00 ∷ 0x00 ∷ 0x00 ∷ 0x00 ∷ []
+  pub addressBelow48 : addressField (2 ^ 48 - 1) ≡ 0xFF ∷ 0x06 ∷ 0xFF ∷ 0xFF ∷ 0xFF ∷ 0xFF ∷ 0xFF ∷ 0xFF ∷ []
+  pub addressOf49 : addressField (2 ^ 48) ≡ 0xFF ∷ 0x07 ∷ 0x01 ∷ 0x00 ∷ 0x00 ∷ 0x00 ∷ 0x00 ∷ 0x00 ∷ 0x00 ∷ []
+  pub addressBelow56 : addressField (2 ^ 56 - 1) ≡ 0xFF ∷ 0x07 ∷ 0xFF ∷ 0xFF ∷ 0xFF ∷ 0xFF ∷ 0xFF ∷ 0xFF ∷ 0xFF ∷ []
+  pub addressOf57 : addressField (2 ^ 56) ≡ 0xFF ∷ 0x08 ∷ 0x01 ∷ 0x00 ∷ 0x00 ∷ 0x00 ∷ 0x00 ∷ 0x00 ∷ 0x00 ∷ 0x00 ∷ []
   pub addressBelow64 : addressField (2 ^ 64 - 1) ≡ 0xFF ∷ 0x08 ∷ 0xFF ∷ 0xFF ∷ 0xFF ∷ 0xFF ∷ 0xFF ∷ 0xFF ∷ 0xFF ∷ 0xFF ∷ []
+  -- with octets that all differ
+  pub fourDiffer : addressField 0x01020304 ≡ 0xFE ∷ 0x01 ∷ 0x02 ∷ 0x03 ∷ 0x04 ∷ []
+  pub fiveDiffer : addressField 0x0102030405 ≡ 0xFF ∷ 0x05 ∷ 0x01 ∷ 0x02 ∷ 0x03 ∷ 0x04 ∷ 0x05 ∷ []
+  pub eightDiffer : addressField 0x0102030405060708 ≡ 0xFF ∷ 0x08 ∷ 0x01 ∷ 0x02 ∷ 0x03 ∷ 0x04 ∷ 0x05 ∷ 0x06 ∷ 0x07 ∷ 0x08 ∷ []
   pub the23 : length (fields 65787 (2 ^ 64 - 1) (2 ^ 64 - 1)) ≡ 23
   -- payload lengths that are refused, with two addresses behind them
   pub fd00 : reading (0xFD ∷ 0x00 ∷ 0x01 ∷ 0x01 ∷ []) ≡ refusedFields 6
+  pub fdCut : reading (0xFD ∷ []) ≡ refusedFields 4
+  pub feCut : reading (0xFE ∷ 0x00 ∷ []) ≡ refusedFields 4
   pub fe00ff : reading (0xFE ∷ 0x00 ∷ 0xFF ∷ 0x01 ∷ 0x01 ∷ []) ≡ refusedFields 6
   pub ffAlone : reading (0xFF ∷ []) ≡ refusedFields 6
   pub ffBefore : reading (0xFF ∷ 0x01 ∷ 0x01 ∷ []) ≡ refusedFields 6
@@ -197,14 +224,29 @@ pub record ValuesOfSeven : Type 0 where
   pub ffNoMore : reading (0x00 ∷ 0xFF ∷ []) ≡ refusedFields 4
   pub ff0500Missing : reading (0x00 ∷ 0xFF ∷ 0x05 ∷ 0x00 ∷ 0x01 ∷ 0x01 ∷ 0x01 ∷ []) ≡ refusedFields 4
   pub ff0500Whole : reading (0x00 ∷ 0xFF ∷ 0x05 ∷ 0x00 ∷ 0x01 ∷ 0x01 ∷ 0x01 ∷ 0x01 ∷ []) ≡ refusedFields 6
+  pub feZeros : reading (0x00 ∷ 0xFE ∷ 0x00 ∷ 0x00 ∷ 0x00 ∷ 0x00 ∷ 0x01 ∷ []) ≡ refusedFields 6
+  pub ff00 : reading (0x00 ∷ 0xFF ∷ 0x00 ∷ 0x01 ∷ []) ≡ refusedFields 6
   -- forms as long as the shortest, with a length octet
   pub ff01fd : reading (0x00 ∷ 0xFF ∷ 0x01 ∷ 0xFD ∷ 0x01 ∷ []) ≡ refusedFields 6
+  pub ff03 : reading (0x00 ∷ 0xFF ∷ 0x03 ∷ 0x01 ∷ 0x00 ∷ 0x00 ∷ 0x01 ∷ []) ≡ refusedFields 6
+  -- destinations that are refused
+  pub destinationZero : reading (0x00 ∷ 0x01 ∷ 0x00 ∷ []) ≡ refusedFields 9
+  pub destinationFd00fc : reading (0x00 ∷ 0x01 ∷ 0xFD ∷ 0x00 ∷ 0xFC ∷ []) ≡ refusedFields 6
+  pub destinationFf09 : reading (0x00 ∷ 0x01 ∷ 0xFF ∷ 0x09 ∷ []) ≡ refusedFields 6
+  pub noDestination : reading (0x00 ∷ 0x01 ∷ []) ≡ refusedFields 4
   -- the first faulty field decides: a source of zero, and no destination
   pub sourceFirst : reading (0x00 ∷ 0x00 ∷ []) ≡ refusedFields 9
   -- and what is read, whatever stands behind it
   pub aReading : (behind : List ℕ) → reading (0xFD ∷ 0x01 ∷ 0xFC ∷ 0xFD ∷ 0x01 ∷ 0x00 ∷ behind) ≡ found 253 252 256 6
+  pub longReading : reading (0xFE ∷ 0x01 ∷ 0x00 ∷ 0xFE ∷ 0x01 ∷ 0x02 ∷ 0x03 ∷ 0x04 ∷ 0xFF ∷ 0x05 ∷ 0x01 ∷ 0x02 ∷ 0x03 ∷ 0x04 ∷ 0x05 ∷ 0x99 ∷ [])
+      ≡ found 508 0x01020304 0x0102030405 15
+  -- exact room, and one octet less
+  pub exactRoom : writing 253 252 253 (0 ∷ 0 ∷ 0 ∷ 0 ∷ 0 ∷ 0 ∷ [])
+      ≡ record { answer = wrote 6; buffer = 0xFD ∷ 0x01 ∷ 0xFC ∷ 0xFD ∷ 0x00 ∷ 0xFD ∷ [] }
+  pub oneLess : writing 253 252 253 (0 ∷ 0 ∷ 0 ∷ 0 ∷ 0 ∷ []) ≡ refuseWriting 10 (0 ∷ 0 ∷ 0 ∷ 0 ∷ 0 ∷ [])
 
--- ---- what the code promises; the exports' struct beside it
+-- ---- what the code promises; the exports' structs beside it. `Asked` is what a caller must show, `Learnt` what it learns when the call ends; what is lent
+-- to be read alone has no other content then
 
 pub record OlderCode : Type 0 where
   -- the document's number and values for each case of the answer, which leave one answer
@@ -217,21 +259,25 @@ pub record OlderCode : Type 0 where
       → write-reads.Learnt κs (l, (s, (d, (out, tt)))) r (l, (s, (d, (out′, tt))))
       → _≡_ {A = WriteEffect} record { answer = r; buffer = now out′ } (writing l (s .number) (d .number) (now out))
   pub nsaReadAsks : (κs : Lfts 1) (p : Slice) → read-reads.Asked κs (p, tt)
-  pub nsaRead : (κs : Lfts 1) (p : Slice) (r : Reading) → read-reads.Learnt κs (p, tt) r (p, tt) → fieldsAnswer r ≡ reading (now p)
+  pub nsaRead : (κs : Lfts 1) (p : Slice) (r : Reading) → read-reads.Learnt κs (p, tt) r (p, tt)
+      → (fieldsAnswer r ≡ reading (now p)) × AreOctets (now p)
   pub pasaNsaWriteAsks : (κs : Lfts 1) (l s d : ℕ) (out : Slice) → nsa-write-reads.Asked κs (l, (s, (d, (out, tt))))
   pub pasaNsaWrite : (κs : Lfts 1) (l s d : ℕ) (out out′ : Slice) (r : PasaWritten)
       → nsa-write-reads.Learnt κs (l, (s, (d, (out, tt)))) r (l, (s, (d, (out′, tt))))
       → (r ≡ pasaWritten (writing l s d (now out) .answer)) × (now out′ ≡ writing l s d (now out) .buffer)
   pub pasaNsaReadAsks : (κs : Lfts 1) (p : Slice) → nsa-read-reads.Asked κs (p, tt)
-  pub pasaNsaRead : (κs : Lfts 1) (p : Slice) (r : PasaNsa) → nsa-read-reads.Learnt κs (p, tt) r (p, tt) → r ≡ pasaNsa (reading (now p))
+  pub pasaNsaRead : (κs : Lfts 1) (p : Slice) (r : PasaNsa) → nsa-read-reads.Learnt κs (p, tt) r (p, tt)
+      → (r ≡ pasaNsa (reading (now p))) × AreOctets (now p)
+  pub writtenStruct : (w : Written) → pasaWritten w ≡ record { count = w .count; refusal = w .refusal }
   pub nsaStruct : (r : FieldsAnswer)
       → pasaNsa r ≡ record { length = r .length; source = r .source; destination = r .destination; place = r .place; refusal = r .refusal }
 
 -- ---- wrong writers and readers
 
--- demand 1 and demand 2, said of any writer and any reader; they hold of ours, and demand 1 leaves one writer, and one reader of octets
+-- demand 1 and demand 2 as they are said of any writer and any reader: what the statements mean, that they hold of ours, and that demand 1 leaves one
+-- writer, and one reader of octets
 pub record OlderOfAny : Type 0 where
-  pub toWrite : (writer : FieldsWriter)
+  pub meansToWrite : (writer : FieldsWriter)
       → FieldsWriteRefusals writer
       ↔ (((l s d : ℕ) (buffer : List ℕ)
       → GivenExactly (
@@ -244,17 +290,19 @@ pub record OlderOfAny : Type 0 where
       → (writer l s d buffer .answer .count ≡ 0) × (writer l s d buffer .buffer ≡ buffer))
       × ((l s d : ℕ) (buffer : List ℕ) → writer l s d buffer .answer .refusal ≡ 0
       → (writer l s d buffer .answer .count ≡ length (fields l s d)) × (writer l s d buffer .buffer ≡ fields l s d ++ drop (length (fields l s d)) buffer)))
-  pub toRead : (reader : FieldsReader)
+  pub meansToRead : (reader : FieldsReader)
       → FieldsReadRefusals reader
       ↔ (((p : List ℕ) → AreOctets p → GivenExactly (olderOrder p) (reader p .refusal))
       × ((p : List ℕ) → (reader p .refusal ≡ 0 → ⊥)
       → (reader p .length ≡ 0) × (reader p .source ≡ 0) × (reader p .destination ≡ 0) × (reader p .place ≡ 0))
       × ((p : List ℕ) → AreOctets p → reader p .refusal ≡ 0
-      → AcceptedFields p (reader p .length) (reader p .source) (reader p .destination) (reader p .place)))
-  pub bothWays : (writer : FieldsWriter) (reader : FieldsReader)
+      → ThreeForms p (reader p .length) (reader p .source) (reader p .destination) (reader p .place)))
+  pub meansBothWays : (writer : FieldsWriter) (reader : FieldsReader)
       → FieldsRoundTrip writer reader
       ↔ (((l s d : ℕ) (buffer : List ℕ) → l ≤ 65787 → IsAddress s → IsAddress d → length (fields l s d) ≤ length buffer
-      → (writer l s d buffer .answer ≡ wrote (length (fields l s d))) × (reader (writer l s d buffer .buffer) ≡ found l s d (length (fields l s d))))
+      → (writer l s d buffer .answer ≡ wrote (length (fields l s d)))
+      × (writer l s d buffer .buffer ≡ fields l s d ++ drop (length (fields l s d)) buffer)
+      × (reader (writer l s d buffer .buffer) ≡ found l s d (length (fields l s d))))
       × ((l s d : ℕ) (buffer behind : List ℕ) (k : ℕ) → s < 2 ^ 64 → d < 2 ^ 64 → writer l s d buffer .answer ≡ wrote k
       → (reader (writer l s d buffer .buffer ++ behind) ≡ found l s d k)
       × (drop k (writer l s d buffer .buffer) ≡ drop k buffer)
@@ -284,7 +332,11 @@ pub record WrongOlder : Type 0 where
   -- 9 before 14; 10 before 9
   pub withZeroFirst : FieldsWriteRefusals zeroFirstFieldsWriter → ⊥
   pub withRoomFirst : FieldsWriteRefusals roomFirstFieldsWriter → ⊥
-  -- the length octet judged after its octets; 9 for longer zeros; an octet looked for behind a payload length's 255; the last faulty field decides
+  -- source and destination exchanged, whatever reads it; and by a reader
+  pub writesExchanged : (reader : FieldsReader) → FieldsRoundTrip exchangingFieldsWriter reader → ⊥
+  pub readsExchanged : FieldsReadRefusals exchangingFieldsReader → ⊥
+  -- the length octet judged after its octets; 9 for longer zeros; an octet looked for behind a payload length's 255; a destination looked for before
+  -- the source is judged
   pub withLengthLate : FieldsReadRefusals lateLengthFieldsReader → ⊥
   pub withNineForLong : FieldsReadRefusals longZerosNineReader → ⊥
   pub withReservedLate : FieldsReadRefusals lateReservedReader → ⊥

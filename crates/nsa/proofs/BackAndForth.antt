@@ -32,7 +32,7 @@ long-in a l h = go (decLt a (256 ^ 5)) (decLt a (256 ^ 6)) (decLt a (256 ^ 7))
     go (no five) (no six) (no seven) = subst (LongIn a) (sym (longOctets-eight a (omega arith))) (omega arith)
 
 -- and no other number of octets, of 5 to 8
-long-exact : (a k : ℕ) → 5 ≤ k → k ≤ 8 → LongIn a k → (256 ^ 4 ≤ a) × (longOctets a ≡ k)
+pub long-exact : (a k : ℕ) → 5 ≤ k → k ≤ 8 → LongIn a k → (256 ^ 4 ≤ a) × (longOctets a ≡ k)
 long-exact a k some most h = go (ℕ-discrete k 5) (ℕ-discrete k 6) (ℕ-discrete k 7)
   where
     go : Dec (k ≡ 5) → Dec (k ≡ 6) → Dec (k ≡ 7) → (256 ^ 4 ≤ a) × (longOctets a ≡ k)

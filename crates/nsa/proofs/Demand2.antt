@@ -7,18 +7,18 @@ use Prim.Native.Nat.{ℕ, _+_, _^_, _≤_, _<_}
 use native.Mathlib.Nat.{pos-of-ne-zero}
 use native.Mathlib.Omega.{arith}
 use lib.ListN.{length, take, drop, length-append, length-drop}
-use lib.Seq.{take-at, take-add, drop-at, drop-append-seam, drop-append-add, length-take-le}
+use lib.Seq.{take-at, take-add, drop-at, length-take-le}
 use Rattle.address.specs.Bits.{longest}
 use Rattle.address.specs.Order.{First}
 use Rattle.address.specs.Numbers.{IsAddress}
 use Rattle.octets.specs.declared.Written.{Written}
 use Rattle.octets.specs.Octets.{AreOctets, WriteEffect, write, wrote}
 use Rattle.octets.proofs.OctetLaws.{drop-octets}
-use Rattle.nsa.specs.Fields.{lengthField, addressField, fields, longestPayload, writing, Field, field, lengthReading, addressReading, FieldsAnswer, found, sourceReading, destinationReading, reading}
+use Rattle.nsa.specs.Fields.{lengthField, addressField, fields, longestPayload, writing, Field, field, lengthReading, FieldsAnswer, found, sourceReading, destinationReading, reading}
 use Rattle.nsa.specs.RoundTrip.{FieldsRoundTrip}
 use Rattle.nsa.specs.Refusals.{fieldsWritingOrder}
 use Rattle.nsa.proofs.Writing.{length-fields, writing-done}
-use Rattle.nsa.proofs.Row.{reading-found, reading-right, destination-within}
+use Rattle.nsa.proofs.Row.{reading-found, reading-right, destination-within, source-behind, destination-behind}
 use Rattle.nsa.proofs.BackAndForth.{length-put, address-put, length-read, address-read}
 use Rattle.nsa.proofs.WriteRefusals.{fields-write-refusals}
 
@@ -39,20 +39,12 @@ module _ {l s d : ℕ} (short : l ≤ longestPayload) (source : IsAddress s) (de
   row-length = length-put l (addressField s ++ (addressField d ++ rest)) short
 
   row-source : sourceReading row ≡ field s (length (addressField s))
-  unfolding row sourceReading
-  row-source =
-      ap (λ (f : Field). addressReading (drop (f .size) row)) row-length
-      ∙ ap addressReading (drop-append-seam (lengthField l) (addressField s ++ (addressField d ++ rest)))
-      ∙ address-put s (addressField d ++ rest) source
+  unfolding row
+  row-source = source-behind (lengthField l) (addressField s ++ (addressField d ++ rest)) row-length ∙ address-put s (addressField d ++ rest) source
 
   row-destination : destinationReading row ≡ field d (length (addressField d))
-  unfolding row destinationReading
-  row-destination =
-      ap₂ (λ (f g : Field). addressReading (drop (f .size + g .size) row)) row-length row-source
-      ∙ ap addressReading
-      (drop-append-add (lengthField l) (addressField s ++ (addressField d ++ rest)) (length (addressField s))
-      ∙ drop-append-seam (addressField s) (addressField d ++ rest))
-      ∙ address-put d rest destination
+  unfolding row
+  row-destination = destination-behind (lengthField l) (addressField s) (addressField d ++ rest) row-length row-source ∙ address-put d rest destination
 
   pub reading-fields : reading (fields l s d ++ rest) ≡ found l s d (length (fields l s d))
   reading-fields =
@@ -157,7 +149,7 @@ pub fields-round-trip : FieldsRoundTrip writing reading
 fields-round-trip = record {
   readsBack = λ l s d buffer short source destination room.
       let (answered, left) = wrote-fields l s d buffer short source destination room in
-      (answered, ap reading left ∙ reading-fields short source destination (drop (length (fields l s d)) buffer));
+      (answered, left, ap reading left ∙ reading-fields short source destination (drop (length (fields l s d)) buffer));
   whereDone = λ l s d buffer behind k sFits dFits e.
       let (spared, long) = done-spares l s d buffer k e in (done-reads l s d buffer behind k sFits dFits e, spared, long);
   writtenSo = λ p l s d k all e.

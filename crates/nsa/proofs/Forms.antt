@@ -26,7 +26,7 @@ rest-octets : (k n : ℕ) → n < 256 ^ k → AreOctets (octets k n) × (length 
 rest-octets k n h = (octets-octets k n, length-octets k n, sym (value-octets-of-lt k n h))
 
 -- the number of some octets: below what so many hold, and with those for its own
-rest-number : (k : ℕ) (rest : List ℕ) → AreOctets rest → length rest ≡ k → (value rest < 256 ^ k) × (octets k (value rest) ≡ rest)
+pub rest-number : (k : ℕ) (rest : List ℕ) → AreOctets rest → length rest ≡ k → (value rest < 256 ^ k) × (octets k (value rest) ≡ rest)
 rest-number k rest are many =
     (subst (λ (j : ℕ). value rest < 256 ^ j) many (value-lt rest are), ap (λ (j : ℕ). octets j (value rest)) (sym many) ∙ octets-value rest are)
 
@@ -44,7 +44,7 @@ length-form n most = go (decLt n 253) (decLt n 508)
         let (are, many, number) = rest-octets 2 (n - 252) (omega arith) in
         lengthTwo (octets 2 (n - 252)) are many (lengthField-two n (omega arith)) (omega arith)
 
-length-shortest : (n : ℕ) (os : List ℕ) → LengthForm os n → (os ≡ lengthField n) ⊎ (length (lengthField n) < length os)
+pub length-shortest : (n : ℕ) (os : List ℕ) → LengthForm os n → (os ≡ lengthField n) ⊎ (length (lengthField n) < length os)
 length-shortest n os (lengthAlone h e) = inl (e ∙ sym (lengthField-alone n (omega arith)))
 length-shortest n os (lengthOne rest are many e number) = go (decLt n 253)
   where

@@ -6,6 +6,7 @@ pub mod BackAndForth
 pub mod WriteRefusals
 pub mod Demand2
 pub mod Forms
+pub mod Shortest
 pub mod ReadRefusals
 pub mod OneRule
 pub mod WrongWriters

@@ -5,6 +5,7 @@ use mathlib.Core.List.{List}
 use Prim.Native.Nat.{ℕ}
 use contract.Lifetimes.{Lfts}
 use denote.Ref.{RefT, now}
+use Rattle.octets.specs.Octets.{AreOctets}
 use Rattle.address.specs.declared.Address.{Address}
 use Rattle.octets.specs.declared.Written.{Written}
 use Rattle.nsa.specs.Fields.{writing, FieldsAnswer, Reading, Found, Refused, fieldsAnswer, reading}
@@ -30,7 +31,7 @@ read-asks-nothing κs fields = tt
 
 pub read-promise : (κs : Lfts 1) (fields : Slice) (r : Reading)
     → read-reads.Learnt κs (fields, tt) r (fields, tt)
-    → fieldsAnswer r ≡ reading (now fields)
+    → (fieldsAnswer r ≡ reading (now fields)) × AreOctets (now fields)
 read-promise κs fields r h = h
 
 -- the numbers promised leave one answer

@@ -1,14 +1,14 @@
 -- What reading three fields in a row answers, case by case, and how far a field reaches. Assumes nothing.
-use mathlib.Core.Path.{_≡_, refl, sym, ap, _∙_, subst}
-use mathlib.Core.List.{List, [], _∷_}
+use mathlib.Core.Path.{_≡_, refl, sym, ap, ap₂, _∙_, subst}
+use mathlib.Core.List.{List, [], _∷_, _++_}
 use Prim.Native.Nat.{ℕ, zero, suc, _+_, _*_, _-_, _^_, _≤_, _<_}
 use native.Mathlib.Decide.{ℕ-discrete, decLt}
 use native.Mathlib.Omega.{arith}
 use borrow.Author.Tests.{eq-eqb, ne-eqb}
 use lib.ListN.{length, take, drop, getD, length-drop}
-use lib.Seq.{take-all}
+use lib.Seq.{take-all, drop-append-seam, drop-append-add}
 use Rattle.octets.specs.Octets.{value}
-use Rattle.nsa.specs.Fields.{Field, refusedField, numberReading, lengthReading, countedReading, addressReading, FieldsAnswer, found, refusedFields, sourceReading, destinationReading, reading}
+use Rattle.nsa.specs.Fields.{Field, field, refusedField, numberReading, lengthReading, countedReading, addressReading, FieldsAnswer, found, refusedFields, sourceReading, destinationReading, reading}
 use Rattle.nsa.proofs.Cases.{numberReading-missing, numberReading-low, numberReading-found, lengthReading-absent, lengthReading-alone, lengthReading-one, lengthReading-two, lengthReading-reserved, countedReading-absent, countedReading-few, countedReading-many, countedReading-right, addressReading-absent, addressReading-zero, addressReading-alone, addressReading-two, addressReading-four, addressReading-counted}
 
 -- ---- three in a row
@@ -136,3 +136,15 @@ reading-refused p e z =
     let (l, s, d) = reading-right p (ap (λ (x : FieldsAnswer). x .refusal) e ∙ z) in
     let place = sym (ap (λ (x : FieldsAnswer). x .place) (reading-found p l s d)) ∙ ap (λ (x : FieldsAnswer). x .place) e in
     omega (arith, place, length-within p .2 l)
+
+-- behind a payload length that was read the source is read, and behind a source the destination
+pub source-behind : (f rest : List ℕ) {n : ℕ} → lengthReading (f ++ rest) ≡ field n (length f) → sourceReading (f ++ rest) ≡ addressReading rest
+unfolding sourceReading
+source-behind f rest e = ap (λ (x : Field). addressReading (drop (x .size) (f ++ rest))) e ∙ ap addressReading (drop-append-seam f rest)
+
+pub destination-behind : (f g rest : List ℕ) {n a : ℕ} → lengthReading (f ++ (g ++ rest)) ≡ field n (length f)
+    → sourceReading (f ++ (g ++ rest)) ≡ field a (length g) → destinationReading (f ++ (g ++ rest)) ≡ addressReading rest
+unfolding destinationReading
+destination-behind f g rest d e =
+    ap₂ (λ (x y : Field). addressReading (drop (x .size + y .size) (f ++ (g ++ rest)))) d e
+    ∙ ap addressReading (drop-append-add f (g ++ rest) (length g) ∙ drop-append-seam g rest)

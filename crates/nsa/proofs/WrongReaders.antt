@@ -1,7 +1,7 @@
 -- A reader that takes a longer form is refuted by demand 2 at 00 FD 00 FC 01, which is not what is written of its numbers. The others are refuted by
 -- demand 1: one that forgets 252 at the payload length 253, one that has 4 before 6 at FF 09 and nothing behind it, one that has 9 for longer zeros
--- at FD 00 00, one that waits for an octet behind a payload length's FF, and one that looks at the destination first at a source of 00. Assumes
--- nothing.
+-- at FD 00 00, one that waits for an octet behind a payload length's FF, one that looks for the destination first at a source of 00, and one
+-- that exchanges the addresses at 1 and 2. Assumes nothing.
 use mathlib.Core.Path.{refl, ap}
 use mathlib.Core.List.{List, [], _∷_}
 use Prim.Native.Nat.{ℕ}
@@ -13,7 +13,7 @@ use Rattle.octets.specs.Octets.{AreOctets, value, joined, octets, write}
 use Rattle.nsa.specs.Fields.{lengthField, addressField, fields, writing, FieldsAnswer, numberReading, lengthReading, countedReading, addressReading, sourceReading, destinationReading, reading}
 use Rattle.nsa.specs.RoundTrip.{FieldsRoundTrip}
 use Rattle.nsa.specs.Refusals.{FieldsReadRefusals}
-use Rattle.nsa.specs.WrongReaders.{longerFieldsReader, unaddedFieldsReader, lateLengthFieldsReader, longZerosNineReader, lateReservedReader, lastFieldReader}
+use Rattle.nsa.specs.WrongReaders.{longerFieldsReader, unaddedFieldsReader, lateLengthFieldsReader, longZerosNineReader, lateReservedReader, lastFieldReader, exchangingFieldsReader}
 use Rattle.nsa.proofs.OneRule.{one-reader}
 
 longer : List ℕ
@@ -48,3 +48,8 @@ late-reserved-reader-refuted claim = omega (arith, ap (λ (x : FieldsAnswer). x 
 pub last-field-reader-refuted : FieldsReadRefusals lastFieldReader → ⊥
 unfolding lastFieldReader reading lengthReading sourceReading addressReading
 last-field-reader-refuted claim = omega (arith, ap (λ (x : FieldsAnswer). x .refusal) (one-reader lastFieldReader claim (0x00 ∷ 0x00 ∷ []) (lit< tt, (lit< tt, tt))))
+
+pub exchanging-fields-reader-refuted : FieldsReadRefusals exchangingFieldsReader → ⊥
+unfolding exchangingFieldsReader reading lengthReading sourceReading destinationReading addressReading
+exchanging-fields-reader-refuted claim =
+    omega (arith, ap (λ (x : FieldsAnswer). x .source) (one-reader exchangingFieldsReader claim (0x00 ∷ 0x01 ∷ 0x02 ∷ []) (lit< tt, (lit< tt, (lit< tt, tt)))))

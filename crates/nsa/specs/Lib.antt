@@ -2,6 +2,7 @@
 pub mod Fields
 pub mod Forms
 pub mod RoundTrip
+pub mod Shortest
 pub mod Refusals
 pub mod WrongWriters
 pub mod WrongReaders

@@ -53,15 +53,14 @@ lengthOrder p =
     4 when Absent 0 p
     -- "255 is refused with 6"
     otherwise 6 when octetAt 0 p ≡ 255
-    -- "253 is followed by one octet .., plus 252": to 252 one octet would do
+    -- "253 is followed by one octet and 254 by two, each plus 252": to 252 a length stands alone, to 507 after 253
     otherwise 4 when ((octetAt 0 p ≡ 253) × Absent 1 p)
     otherwise 6 when ((octetAt 0 p ≡ 253) × (told 1 1 p + 252 ≤ 252))
-    -- "and 254 by two, .. plus 252": to 507 two octets would do
     otherwise 4 when ((octetAt 0 p ≡ 254) × Absent 2 p)
     otherwise 6 when ((octetAt 0 p ≡ 254) × (told 1 2 p + 252 ≤ 507))
     otherwise done
 
--- how many octets a payload length takes, by the first of them
+-- how many octets a payload length takes, by the first of them, which is not 255
 abbrev pub lengthEnd : List ℕ → ℕ
 lengthEnd p =
     if ltb (octetAt 0 p) 253 then 1
@@ -74,10 +73,10 @@ fieldOrder p =
     4 when Absent 0 p
     -- "Address zero in one octet is 9"
     otherwise 9 when octetAt 0 p ≡ 0
-    -- "253 is followed by two octets": to 252 one octet would do; "longer zeros are 6"
+    -- "253 is followed by two octets": to 252 an address stands alone; "longer zeros are 6"
     otherwise 4 when ((octetAt 0 p ≡ 253) × Absent 2 p)
     otherwise 6 when ((octetAt 0 p ≡ 253) × (told 1 2 p ≤ 252))
-    -- "254 by four": to 65,535 two would do
+    -- "254 by four": to 65,535 an address stands after 253
     otherwise 4 when ((octetAt 0 p ≡ 254) × Absent 4 p)
     otherwise 6 when ((octetAt 0 p ≡ 254) × (told 1 4 p ≤ 65535))
     -- "255 by a length and that many octets": "after 255 the length is 5 to 8 and its first octet isn't zero", "but the length octet after 255 is
@@ -119,7 +118,7 @@ pub record AcceptedFields (p : List ℕ) (l s d place : ℕ) : Type 0 where
   pub destination-told : AddressForm inDestination d
   pub after : place ≡ length inLength + length inSource + length inDestination
 
--- whatever stands in a buffer is an octet
+-- of octets, which is what a reader is lent (`read` promises so)
 pub record FieldsReadRefusals (reader : FieldsReader) : Type 0 where
   pub given : (p : List ℕ) → AreOctets p → GivenExactly (fieldsReadingOrder p) (reader p .refusal)
   -- "With any refusal .. every other number returned beside its own are 0"

@@ -17,9 +17,11 @@ abbrev pub FieldsReader : Type 0
 FieldsReader = List ℕ → FieldsAnswer
 
 pub record FieldsRoundTrip (writer : FieldsWriter) (reader : FieldsReader) : Type 0 where
-  -- in every buffer that has room the fields are written, and the buffer reads as the three numbers
+  -- in every buffer that has room the fields are written, those of the document and nothing else, and the buffer reads as the three numbers
   pub readsBack : (l s d : ℕ) (buffer : List ℕ) → l ≤ longestPayload → IsAddress s → IsAddress d → length (fields l s d) ≤ length buffer
-      → (writer l s d buffer .answer ≡ wrote (length (fields l s d))) × (reader (writer l s d buffer .buffer) ≡ found l s d (length (fields l s d)))
+      → (writer l s d buffer .answer ≡ wrote (length (fields l s d)))
+      × (writer l s d buffer .buffer ≡ fields l s d ++ drop (length (fields l s d)) buffer)
+      × (reader (writer l s d buffer .buffer) ≡ found l s d (length (fields l s d)))
   -- in EVERY buffer, with anything behind it: where the writer answers k without a refusal, the buffer as it then stands reads as the three
   -- numbers with the place k, behind k it is as it was, and it is as long: "On success only the words or octets named are written."
   pub whereDone : (l s d : ℕ) (buffer behind : List ℕ) (k : ℕ) → s < 2 ^ longest → d < 2 ^ longest → writer l s d buffer .answer ≡ wrote k

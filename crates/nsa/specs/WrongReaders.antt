@@ -7,6 +7,7 @@ use Rattle.address.specs.Choice.{if_then_else_}
 use Rattle.octets.specs.Octets.{value}
 use Rattle.nsa.specs.Fields.{found, refusedFields, lengthReading, reading}
 use Rattle.nsa.specs.RoundTrip.{FieldsReader}
+use Rattle.nsa.specs.Refusals.{addressEnd}
 
 -- it takes a source in the two octets after 253 also where one would do, before a destination in one octet; right otherwise
 unfoldable pub longerFieldsReader : FieldsReader
@@ -38,6 +39,14 @@ longZerosNineReader p =
 unfoldable pub lateReservedReader : FieldsReader
 lateReservedReader p = if eqb (length p) 1 && eqb (getD p 0 0) 255 then refusedFields 4 else reading p
 
--- the last faulty field decides: no destination is 4, whatever the source; right otherwise
+-- it looks for a destination before it judges the source: with nothing behind the source it answers 4, whatever the source is; right otherwise
 unfoldable pub lastFieldReader : FieldsReader
-lastFieldReader p = if eqb (lengthReading p .refusal) 0 && eqb (length p) (lengthReading p .size + 1) then refusedFields 4 else reading p
+lastFieldReader p =
+    if eqb (lengthReading p .refusal) 0 && leb (length p) (lengthReading p .size + addressEnd (drop (lengthReading p .size) p)) then refusedFields 4
+    else reading p
+
+-- source and destination exchanged; right otherwise
+unfoldable pub exchangingFieldsReader : FieldsReader
+exchangingFieldsReader p =
+    if eqb (reading p .refusal) 0 then found (reading p .length) (reading p .destination) (reading p .source) (reading p .place)
+    else reading p

@@ -1,6 +1,7 @@
 -- Wrong writers, which the statement of demand 2 or of demand 1 must exclude.
 use mathlib.Core.Bool.{_&&_}
 use mathlib.Core.List.{_∷_, _++_}
+use Prim.Native.Nat.{_+_}
 use lib.Dec.{eqb, ltb, leb}
 use lib.ListN.{length, take, set}
 use Rattle.address.specs.Choice.{if_then_else_}
@@ -34,7 +35,7 @@ spoilingFieldsWriter l s d buffer =
 -- it writes a source to 252 in the two octets after 253 where there is room for them; right otherwise
 unfoldable pub longerFieldsWriter : FieldsWriter
 longerFieldsWriter l s d buffer =
-    if eqb (writing l s d buffer .answer .refusal) 0 && ltb s 253 && leb (length (fields l s d)) (length buffer)
+    if eqb (writing l s d buffer .answer .refusal) 0 && ltb s 253 && leb (length (fields l s d) + 2) (length buffer)
     then write (lengthField l ++ (253 ∷ octets 2 s) ++ addressField d) buffer
     else writing l s d buffer
 
@@ -57,3 +58,7 @@ unfoldable pub roomFirstFieldsWriter : FieldsWriter
 roomFirstFieldsWriter l s d buffer =
     if leb l longestPayload && ltb (length buffer) (length (fields l s d)) then refuseWriting 10 buffer
     else writing l s d buffer
+
+-- source and destination exchanged; right otherwise
+unfoldable pub exchangingFieldsWriter : FieldsWriter
+exchangingFieldsWriter l s d buffer = writing l d s buffer

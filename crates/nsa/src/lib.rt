@@ -6,7 +6,7 @@ ghost use mathlib.Core.Path.{_≡_};
 ghost use mathlib.Core.List.{_∷_};
 ghost use Prim.Native.Nat.{_+_, _-_, _^_, _≤_};
 ghost use lib.ListN.{length};
-ghost use Rattle.octets.specs.Octets.{octets};
+ghost use Rattle.octets.specs.Octets.{octets, AreOctets};
 ghost use Rattle.nsa.specs.Fields.{lengthField, longOctets, addressField, writing, refusedField, numberReading, lengthReading, countedReading, addressReading, fieldsAnswer, reading};
 
 // Refusals: "a missing octet", "only the shortest form is accepted", "lent output too short", "a length to write above 65,787".
@@ -20,7 +20,7 @@ pub const TOO_LONG: u8 = 14;
 
 const LONGEST_PAYLOAD: u64 = 65_787;
 
-// A first octet below these is the number itself; each of these tells what follows it.
+// A first octet below these is the number itself; each of these tells what follows it, but nothing may follow a payload length's third.
 const FIRST_MARK: u8 = 253;
 
 const SECOND_MARK: u8 = 254;
@@ -285,9 +285,9 @@ fn read_address(field: &[u8]) -> Field
     read_counted(field)
 }
 
-// Reads the three fields at the front of some octets.
+// Reads the three fields at the front of some octets. That they are octets, which demand 1 and demand 2 ask, is promised beside the answer.
 pub fn read(fields: &[u8]) -> Reading
-    ensures { λ r. ⌜ fieldsAnswer r ≡ reading (now (fields .entry)) ⌝ }
+    ensures { λ r. ⌜ (fieldsAnswer r ≡ reading (now (fields .entry))) × AreOctets (now (fields .entry)) ⌝ }
 {
     let length = read_length(fields);
     if length.refusal != 0 {

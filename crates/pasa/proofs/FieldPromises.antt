@@ -5,6 +5,7 @@ use mathlib.Core.List.{List}
 use Prim.Native.Nat.{ℕ}
 use contract.Lifetimes.{Lfts}
 use denote.Ref.{RefT, now}
+use Rattle.octets.specs.Octets.{AreOctets}
 use Rattle.nsa.specs.Fields.{writing, reading}
 use Rattle.pasa.specs.declared.bytes.PasaWritten.{PasaWritten}
 use Rattle.pasa.specs.declared.fields.PasaNsa.{PasaNsa}
@@ -30,5 +31,5 @@ nsa-read-asks-nothing κs fields = tt
 
 pub nsa-read-promise : (κs : Lfts 1) (fields : Slice) (r : PasaNsa)
     → nsa-read-reads.Learnt κs (fields, tt) r (fields, tt)
-    → r ≡ pasaNsa (reading (now fields))
+    → (r ≡ pasaNsa (reading (now fields))) × AreOctets (now fields)
 nsa-read-promise κs fields r h = h

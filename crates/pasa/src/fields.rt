@@ -3,6 +3,7 @@ use super::bytes::PasaWritten;
 use address::Address;
 use nsa::Reading;
 ghost use mathlib.Core.Path.{_≡_};
+ghost use Rattle.octets.specs.Octets.{AreOctets};
 ghost use Rattle.nsa.specs.Fields.{writing, reading};
 ghost use Rattle.pasa.specs.Bytes.{pasaWritten};
 ghost use Rattle.pasa.specs.Fields.{pasaNsa};
@@ -36,10 +37,10 @@ pub extern "C" fn pasa_nsa_write(
     ))
 }
 
-// Reads a payload length, a source and a destination at the front of some octets.
+// Reads a payload length, a source and a destination at the front of some octets; that they are octets is promised beside the answer.
 #[no_mangle]
 pub extern "C" fn pasa_nsa_read(fields: &[u8]) -> PasaNsa
-    ensures { λ r. ⌜ r ≡ pasaNsa (reading (now (fields .entry))) ⌝ }
+    ensures { λ r. ⌜ (r ≡ pasaNsa (reading (now (fields .entry)))) × AreOctets (now (fields .entry)) ⌝ }
 {
     match nsa::read(fields) {
         Reading::Found(three, place) => PasaNsa {

@@ -4,6 +4,8 @@ use mathlib.Core.List.{List}
 use Prim.Native.Nat.{ℕ, _+_}
 use native.Mathlib.Omega.{arith}
 use lib.ListN.{drop}
+use Rattle.octets.specs.Octets.{AreOctets}
+use Rattle.octets.proofs.OctetLaws.{all-octets}
 use Rattle.nsa.specs.Fields.{Field, lengthReading, addressReading, sourceReading, destinationReading, found, fieldsAnswer}
 use Rattle.nsa.proofs.Row.{reading-length, reading-source, reading-destination, reading-found, length-within, source-within, destination-within, part-behind}
 use borrow.Author.Needs.{needs}
@@ -20,6 +22,10 @@ size f = f .size
 
 abbrev all : tie.After-read-length → List ℕ
 all c = c .before .before .args .fields .now
+
+-- what is lent as octets is octets
+are-octets : (c : tie.After-read-length) → AreOctets (all c)
+are-octets c = all-octets (all c) (λ i. omega (arith, c .before .shared-slice-known .given i))
 
 module _ (c : tie.After-read-address) where
   abbrev first : tie.After-read-length
@@ -63,7 +69,9 @@ read-length-requires c κs = search needs
 
 returns : tie.Need-returns
 unfolding fieldsAnswer
-returns c = let read = c .before .before in reading-length (all read) (ap refusal (read .read-length .ensures)) (c .if1 .taken)
+returns c =
+    let read = c .before .before in
+    (reading-length (all read) (ap refusal (read .read-length .ensures)) (c .if1 .taken), are-octets read)
 
 sub-read-address : tie.Need-sub-read-address
 sub-read-address c = let read = c .before .before in omega (arith, ap size (read .read-length .ensures), length-within (all read))
@@ -81,7 +89,7 @@ returns-2 : tie.Need-returns-2
 unfolding fieldsAnswer
 returns-2 c =
     let read = c .before .before in
-    reading-source (all (first read)) (length-right read) (ap refusal (source-read read)) (c .if2 .taken)
+    (reading-source (all (first read)) (length-right read) (ap refusal (source-read read)) (c .if2 .taken), are-octets (first read))
 
 add-destination-at : tie.Need-add-destination-at
 add-destination-at c = let read = c .before .before .before in omega (arith, end-read read, source-within (all (first read)))
@@ -101,9 +109,10 @@ read-address-requires-2 c κs = search needs
 returns-3 : tie.Need-returns-3
 unfolding fieldsAnswer
 returns-3 c =
-    let read = c .before .before in
-    let p = three read in
-    reading-destination p (length-right (second read)) (source-right (read .before .before)) (ap refusal (destination-read read)) (c .if3 .taken)
+    let read = c .before .before in (
+      reading-destination (three read) (length-right (second read)) (source-right (read .before .before)) (ap refusal (destination-read read)) (c .if3 .taken),
+      are-octets (first (second read)),
+    )
 
 of-requires : tie.Need-of-requires
 of-requires c κs = search needs
@@ -123,13 +132,15 @@ returns-4 c =
     let p = three read in
     let l = first (second read) .read-length in
     let s = second read .read-address in
-    let d = read .read-address2 in
-    ap₂ (λ (x y : ℕ). found (l .result .number) x y (l .result .size + s .result .size + d .result .size)) (c .before .before .of .ensures) (c .before .of2 .ensures)
-    ∙ ap (λ (f : Field). found (f .number) (s .result .number) (d .result .number) (f .size + s .result .size + d .result .size)) (l .ensures)
-    ∙ ap₂ (λ (f g : Field). found (lengthReading p .number) (f .number) (g .number) (lengthReading p .size + f .size + g .size))
-    (source-read (second read)) (destination-read read)
-    ∙ sym (reading-found p (length-right (second read)) (source-right (read .before .before))
-    (sym (ap refusal (destination-read read)) ∙ c .before .before .before .if3 .left))
+    let d = read .read-address2 in (
+      ap₂ (λ (x y : ℕ). found (l .result .number) x y (l .result .size + s .result .size + d .result .size)) (c .before .before .of .ensures) (c .before .of2 .ensures)
+          ∙ ap (λ (f : Field). found (f .number) (s .result .number) (d .result .number) (f .size + s .result .size + d .result .size)) (l .ensures)
+          ∙ ap₂ (λ (f g : Field). found (lengthReading p .number) (f .number) (g .number) (lengthReading p .size + f .size + g .size))
+          (source-read (second read)) (destination-read read)
+          ∙ sym (reading-found p (length-right (second read)) (source-right (read .before .before))
+          (sym (ap refusal (destination-read read)) ∙ c .before .before .before .if3 .left)),
+      are-octets (first (second read)),
+    )
 
 pub read-spec : {M : Type 1} → statement M
 read-spec =

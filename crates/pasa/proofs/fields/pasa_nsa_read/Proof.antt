@@ -19,14 +19,14 @@ enum-known-number c = search needs
 returns : tie.Need-returns
 unfolding fieldsAnswer pasaNsa
 returns c =
-    sym (ap (λ (h : Reading). pasaNsa (fieldsAnswer h)) (c .before .three .given .1))
-    ∙ ap pasaNsa (c .before .before .before .read .ensures)
+    let read = c .before .before .before .read .ensures in
+    (sym (ap (λ (h : Reading). pasaNsa (fieldsAnswer h)) (c .before .three .given .1)) ∙ ap pasaNsa (read .0), read .1)
 
 returns-2 : tie.Need-returns-2
 unfolding fieldsAnswer pasaNsa
 returns-2 c =
-    sym (ap (λ (h : Reading). pasaNsa (fieldsAnswer h)) (c .before .number .given .1))
-    ∙ ap pasaNsa (c .before .before .before .read .ensures)
+    let read = c .before .before .before .read .ensures in
+    (sym (ap (λ (h : Reading). pasaNsa (fieldsAnswer h)) (c .before .number .given .1)) ∙ ap pasaNsa (read .0), read .1)
 
 pub pasa-nsa-read-spec : {M : Type 1} → statement M
 pasa-nsa-read-spec =
