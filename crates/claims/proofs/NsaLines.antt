@@ -7,7 +7,7 @@ use native.Mathlib.Omega.{arith}
 use borrow.Author.Tests.{lt-ltb}
 use lib.Dec.{lit<}
 use lib.ListN.{length, getD, replicate}
-use Rattle.octets.specs.Octets.{AreOctets, octets, value, joined, refuseWriting, write}
+use Rattle.octets.specs.Octets.{AreOctets, octets, value, joined, write}
 use Rattle.nsa.specs.Fields.{lengthField, longOctets, addressField, fields, writing, numberReading, lengthReading, countedReading, addressReading, sourceReading, destinationReading, fieldsAnswer, reading}
 use Rattle.nsa.specs.Forms.{LengthForm, lengthAlone, lengthOne, lengthTwo, AddressForm, addressAlone, addressTwo, addressFour, addressCounted}
 use Rattle.nsa.proofs.Writing.{lengthField-alone, lengthField-one, lengthField-two, addressField-alone, addressField-two, addressField-four, addressField-counted, longOctets-five, longOctets-six, longOctets-seven, longOctets-eight, writing-long}
@@ -24,7 +24,7 @@ use Rattle.nsa.proofs.WrongReaders.{longer-fields-reader-refuted, unadded-field
 use Rattle.nsa.proofs.Promises.{write-asks-nothing, write-promise, read-asks-nothing, read-promise, one-reading}
 use Rattle.pasa.specs.Bytes.{pasaWritten}
 use Rattle.pasa.specs.Fields.{pasaNsa}
-use Rattle.pasa.proofs.FieldPromises.{nsa-write-asks-nothing, nsa-write-promise, nsa-read-asks-nothing, nsa-read-promise}
+use Rattle.pasa.proofs.FieldPromises.{nsa-write-asks-nothing, nsa-write-promise, nsa-read-asks-nothing, nsa-read-promise, written-asks-nothing, written-promise}
 use Rattle.claims.specs.Nsa.{OlderFields, ShortestForms, OlderRefusals, ThreeForms, OlderReadsBack, ValuesOfSeven, OlderCode, OlderOfAny, WrongOlder}
 
 pub older-fields : OlderFields
@@ -213,6 +213,8 @@ older-code = record {
   pasaNsaWrite = nsa-write-promise;
   pasaNsaReadAsks = nsa-read-asks-nothing;
   pasaNsaRead = nsa-read-promise;
+  pasaWrittenAsks = written-asks-nothing;
+  pasaWrittenTo = written-promise;
   writtenStruct = λ w. refl;
   nsaStruct = λ r. refl;
 }

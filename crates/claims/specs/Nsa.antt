@@ -29,6 +29,7 @@ use Rattle.pasa.specs.Bytes.{pasaWritten}
 use Rattle.pasa.specs.Fields.{pasaNsa}
 use Rattle.nsa.proofs.write.Reads as write-reads
 use Rattle.nsa.proofs.read.Reads as read-reads
+use Rattle.pasa.proofs.bytes.pasa_written.Reads as written-reads
 use Rattle.pasa.proofs.fields.pasa_nsa_write.Reads as nsa-write-reads
 use Rattle.pasa.proofs.fields.pasa_nsa_read.Reads as nsa-read-reads
 use Rattle.claims.specs.Code.{Slice}
@@ -268,6 +269,8 @@ pub record OlderCode : Type 0 where
   pub pasaNsaReadAsks : (κs : Lfts 1) (p : Slice) → nsa-read-reads.Asked κs (p, tt)
   pub pasaNsaRead : (κs : Lfts 1) (p : Slice) (r : PasaNsa) → nsa-read-reads.Learnt κs (p, tt) r (p, tt)
       → (r ≡ pasaNsa (reading (now p))) × AreOctets (now p)
+  pub pasaWrittenAsks : (w : Written) → written-reads.Asked tt (w, tt)
+  pub pasaWrittenTo : (w : Written) (r : PasaWritten) → written-reads.Learnt tt (w, tt) r (w, tt) → r ≡ pasaWritten w
   pub writtenStruct : (w : Written) → pasaWritten w ≡ record { count = w .count; refusal = w .refusal }
   pub nsaStruct : (r : FieldsAnswer)
       → pasaNsa r ≡ record { length = r .length; source = r .source; destination = r .destination; place = r .place; refusal = r .refusal }

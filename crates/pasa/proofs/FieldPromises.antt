@@ -6,11 +6,13 @@ use Prim.Native.Nat.{ℕ}
 use contract.Lifetimes.{Lfts}
 use denote.Ref.{RefT, now}
 use Rattle.octets.specs.Octets.{AreOctets}
+use Rattle.octets.specs.declared.Written.{Written}
 use Rattle.nsa.specs.Fields.{writing, reading}
 use Rattle.pasa.specs.declared.bytes.PasaWritten.{PasaWritten}
 use Rattle.pasa.specs.declared.fields.PasaNsa.{PasaNsa}
 use Rattle.pasa.specs.Bytes.{pasaWritten}
 use Rattle.pasa.specs.Fields.{pasaNsa}
+use Rattle.pasa.proofs.bytes.pasa_written.Reads as written-reads
 use Rattle.pasa.proofs.fields.pasa_nsa_write.Reads as nsa-write-reads
 use Rattle.pasa.proofs.fields.pasa_nsa_read.Reads as nsa-read-reads
 
@@ -33,3 +35,10 @@ pub nsa-read-promise : (κs : Lfts 1) (fields : Slice) (r : PasaNsa)
     → nsa-read-reads.Learnt κs (fields, tt) r (fields, tt)
     → (r ≡ pasaNsa (reading (now fields))) × AreOctets (now fields)
 nsa-read-promise κs fields r h = h
+
+-- the struct of an answer to a writing, which the header's and the IPv6 form's exports make too
+pub written-asks-nothing : (w : Written) → written-reads.Asked tt (w, tt)
+written-asks-nothing w = tt
+
+pub written-promise : (w : Written) (r : PasaWritten) → written-reads.Learnt tt (w, tt) r (w, tt) → r ≡ pasaWritten w
+written-promise w r h = h
