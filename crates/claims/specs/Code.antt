@@ -1,6 +1,6 @@
 -- What the code promises is what the claims speak of. `Asked` and `Learnt` are read off the functions' own contracts: what a caller must show, and
 -- what it learns of the result and of all that was lent. Each
--- public function asks nothing, and what it answers is what its definition says; the exports, and the functions of Four and Five, have pages of their own.
+-- public function asks nothing, and what it answers is what its definition says; the exports, and the functions of Four, Five and Seven, have pages of their own.
 use Prim.Native.Nat.{ℕ, _+_, _-_, _*_, _/_, _%_, _^_, _<_, _≤_}
 use mathlib.Core.Path.{_≡_}
 use mathlib.Core.Bool.{Bool}

@@ -1,6 +1,6 @@
 -- What the exports of the archive promise: each asks nothing, and answers what the function below it is defined to answer, in a struct of plain
--- numbers with the same names (crates/pasa/specs, and of the next hops crates/batch/specs); a record has its two limits flat. The exports of Four and
--- Five have pages of their own.
+-- numbers with the same names (crates/pasa/specs, and of the next hops crates/batch/specs); a record has its two limits flat. The exports of Four,
+-- Five and Seven have pages of their own.
 use mathlib.Core.Path.{_≡_}
 use Prim.Native.Nat.{ℕ}
 use contract.Lifetimes.{Lfts}

@@ -46,7 +46,7 @@ pub record OneAnswer : Type 0 where
   pub aHop : (r s : Hop) → hopAnswer r ≡ hopAnswer s → r ≡ s
 
 -- the same numbers in fields of the same names, and no field more; but `node` of a hop is the node named, and a record has its two limits flat. The
--- structs of Four and Five stand on their pages.
+-- structs of Four, Five and Seven stand on their pages.
 pub record Fields : Type 0 where
   pub taken : (r : PasaNode) → nodeOf r ≡ record {
     address = record { number = r .address };
