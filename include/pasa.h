@@ -1,4 +1,5 @@
-/* PASA addresses: parents and depths, children and limits on them, next hops, packet headers, IPv6 forms, paths, hall plans and journals.
+/* PASA addresses: parents and depths, children and limits on them, next hops, packet headers, IPv6 forms, the older NSA fields, paths, hall plans
+ * and journals.
  *
  * The functions are those of libpasa.a, for x86-64, each proved to answer what the specification says for every input; a refusal is an
  * answer like any other. Nothing is kept between calls and nothing is allocated, so every function may be called from any thread.
@@ -28,10 +29,12 @@ extern "C" {
 /* The limit of a node that has none, which is the highest one too. */
 #define PASA_NO_CAP 64
 
-/* The most octets of a header, the octets of an IPv6 prefix and of an IPv6 address, and the most addresses of a path. */
+/* The most octets of a header, the octets of an IPv6 prefix and of an IPv6 address, the most octets of the NSA fields, and the most addresses of a
+ * path. */
 #define PASA_HEADER_MOST 11
 #define PASA_IPV6_PREFIX 8
 #define PASA_IPV6_WHOLE 16
+#define PASA_NSA_MOST 23
 #define PASA_PATH_MOST 126
 
 /* The most nodes of a plan, the root counted, and the most bytes of its text. */
@@ -54,7 +57,7 @@ enum pasa_refusal {
     PASA_TOO_LONG = 3,        /* the child would be longer than 64 bits */
     PASA_ENDS_EARLY = 4,      /* the packet ends too early */
     PASA_WRONG_START = 5,     /* one of the first three octets is wrong */
-    PASA_WRONG_SIZE = 6,      /* a size above 8, or a first octet of zero where there are several */
+    PASA_WRONG_SIZE = 6,      /* a size above 8, a first octet of zero where there are several, or an NSA field that isn't in its shortest form */
     PASA_CHILD_NOT_GIVEN = 7, /* destination below this node, child not given */
     PASA_OTHER_PREFIX = 8,    /* IPv6 prefix differs */
     PASA_ZERO_ADDRESS = 9,    /* an address is zero */
@@ -63,7 +66,7 @@ enum pasa_refusal {
     PASA_WRONG_LENGTH = 12,   /* an IPv6 address isn't 16 octets, a prefix isn't 8, a journal isn't 1 to 128 slots, or a block isn't 1 to 63
                                  addresses */
     PASA_BAD_PLAN = 13,       /* a plan's text is outside the grammar */
-    PASA_TOO_MANY = 14,       /* a plan has too many bytes, or a plan or a journal too many nodes */
+    PASA_TOO_MANY = 14,       /* a plan has too many bytes, a plan or a journal too many nodes, or an NSA payload length is above 65,787 */
     PASA_AT_LIMIT = 15,       /* a node is asked for a child at its limit */
     PASA_BAD_JOURNAL = 17     /* a journal's slot is out of place or no right block, or an address in it is no next child */
 };
@@ -132,6 +135,15 @@ struct pasa_read {
 /* An IPv6 reader's answer: the address. */
 struct pasa_address {
     uint64_t address;
+    uint8_t refusal;
+};
+
+/* An NSA reader's answer: the payload length, the two addresses, and the place behind these fields. */
+struct pasa_nsa {
+    uint64_t length;
+    uint64_t source;
+    uint64_t destination;
+    size_t place;
     uint8_t refusal;
 };
 
@@ -209,6 +221,13 @@ PASA_ASSERT(sizeof(struct pasa_address) == 16)
 PASA_ASSERT(offsetof(struct pasa_address, address) == 0)
 PASA_ASSERT(offsetof(struct pasa_address, refusal) == 8)
 
+PASA_ASSERT(sizeof(struct pasa_nsa) == 40)
+PASA_ASSERT(offsetof(struct pasa_nsa, length) == 0)
+PASA_ASSERT(offsetof(struct pasa_nsa, source) == 8)
+PASA_ASSERT(offsetof(struct pasa_nsa, destination) == 16)
+PASA_ASSERT(offsetof(struct pasa_nsa, place) == 24)
+PASA_ASSERT(offsetof(struct pasa_nsa, refusal) == 32)
+
 PASA_ASSERT(sizeof(struct pasa_listed) == 8)
 PASA_ASSERT(offsetof(struct pasa_listed, hops) == 0)
 PASA_ASSERT(offsetof(struct pasa_listed, refusal) == 4)
@@ -270,7 +289,7 @@ static inline const char *pasa_refusal_text(uint8_t refusal)
     case PASA_WRONG_START:
         return "one of the first three octets is wrong";
     case PASA_WRONG_SIZE:
-        return "a size above 8, or a first octet of zero where there are several";
+        return "a size above 8, a first octet of zero where there are several, or an NSA field that isn't in its shortest form";
     case PASA_CHILD_NOT_GIVEN:
         return "destination below this node, child not given";
     case PASA_OTHER_PREFIX:
@@ -286,7 +305,7 @@ static inline const char *pasa_refusal_text(uint8_t refusal)
     case PASA_BAD_PLAN:
         return "a plan's text is outside the grammar";
     case PASA_TOO_MANY:
-        return "a plan has too many bytes, or a plan or a journal too many nodes";
+        return "a plan has too many bytes, a plan or a journal too many nodes, or an NSA payload length is above 65,787";
     case PASA_AT_LIMIT:
         return "a node is asked for a child at its limit";
     case PASA_BAD_JOURNAL:
@@ -349,6 +368,18 @@ struct pasa_written pasa_ipv6_write(const uint8_t *prefix, size_t prefix_length,
 
 /* Reads an IPv6 address, 16 octets, that begins with the prefix, 8 octets. Refusals: 12, 8, 9. */
 struct pasa_address pasa_ipv6_read(const uint8_t *prefix, size_t prefix_length, const uint8_t *ipv6, size_t ipv6_length);
+
+/* Writes the older NSA fields, payload length, source and destination in a row, to the front of the buffer: each in its shortest form and high
+ * octet first, 3 to PASA_NSA_MOST octets together. An address to 252 is one octet; else 253 and two octets, 254 and four, or 255, a length of 5
+ * to 8 and that many. A payload length to 252 is one octet; else 253 and one octet, or 254 and two, which hold what it is above 252. The rest of an
+ * NSA header, its I/O and MA bits among it, is the caller's. Refusals: 14 for a payload length above 65,787, then 9 for either address, 10. */
+struct pasa_written pasa_nsa_write(uint64_t length, uint64_t source, uint64_t destination, uint8_t *out, size_t out_length);
+
+/* Reads the NSA fields at the front of some octets; nothing need stand behind them, and the payload length isn't compared with what does. It accepts
+ * what pasa_nsa_write writes and nothing else. Refusals, those of the first faulty field: 4 where an octet of it is missing, then 6 where it isn't
+ * the shortest form of its number, or 9 where an address is one zero octet. A payload length that begins with 255, and an address with another
+ * length than 5 to 8 behind 255, are 6 also where nothing is behind. */
+struct pasa_nsa pasa_nsa_read(const uint8_t *fields, size_t fields_length);
 
 /* Lists the path from the first address up to the deepest common ancestor-or-self and down to the second, both ends in it, at the front of
  * the words. At most PASA_PATH_MOST addresses. Refusals: 9, 10. */

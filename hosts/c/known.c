@@ -154,7 +154,8 @@ static void refusal_texts(void)
     same_text("refusal 3", pasa_refusal_text(3), "the child would be longer than 64 bits");
     same_text("refusal 4", pasa_refusal_text(4), "the packet ends too early");
     same_text("refusal 5", pasa_refusal_text(5), "one of the first three octets is wrong");
-    same_text("refusal 6", pasa_refusal_text(6), "a size above 8, or a first octet of zero where there are several");
+    same_text("refusal 6", pasa_refusal_text(6),
+              "a size above 8, a first octet of zero where there are several, or an NSA field that isn't in its shortest form");
     same_text("refusal 7", pasa_refusal_text(7), "destination below this node, child not given");
     same_text("refusal 8", pasa_refusal_text(8), "IPv6 prefix differs");
     same_text("refusal 9", pasa_refusal_text(9), "an address is zero");
@@ -163,7 +164,8 @@ static void refusal_texts(void)
     same_text("refusal 12", pasa_refusal_text(12),
               "an IPv6 address isn't 16 octets, a prefix isn't 8, a journal isn't 1 to 128 slots, or a block isn't 1 to 63 addresses");
     same_text("refusal 13", pasa_refusal_text(13), "a plan's text is outside the grammar");
-    same_text("refusal 14", pasa_refusal_text(14), "a plan has too many bytes, or a plan or a journal too many nodes");
+    same_text("refusal 14", pasa_refusal_text(14),
+              "a plan has too many bytes, a plan or a journal too many nodes, or an NSA payload length is above 65,787");
     same_text("refusal 15", pasa_refusal_text(PASA_AT_LIMIT), "a node is asked for a child at its limit");
     same("the number at a limit", PASA_AT_LIMIT, 15);
     same_text("refusal 16", pasa_refusal_text(16), "a refusal that this header doesn't know");
@@ -428,6 +430,320 @@ static void ipv6_forms(void)
     got = pasa_ipv6_read(prefix, sizeof prefix, zero, sizeof zero);
     same("2001:db8:: back: the address", got.address, 0);
     same("2001:db8:: back: the refusal", got.refusal, PASA_ZERO_ADDRESS);
+}
+
+/* Octets as hexadecimal digits show them, two for each, with spaces between. */
+struct octets {
+    uint8_t bytes[64];
+    size_t count;
+};
+
+static struct octets octets(const char *digits)
+{
+    struct octets shown = {{0}, 0};
+    unsigned octet;
+    for (int end; sscanf(digits, "%2x%n", &octet, &end) == 1; digits += end)
+        shown.bytes[shown.count++] = (uint8_t)octet;
+    return shown;
+}
+
+/* One of the older address fields, which two halls still have with NSA (request Seven): its number, and its octets as digits. */
+struct field {
+    uint64_t number;
+    const char *digits;
+};
+
+/* "A payload length to 252 is one octet; 253 is followed by one octet and 254 by two, each plus 252" */
+static const struct field NSA_LENGTHS[] = {
+    {0, "00"},
+    {1, "01"},
+    {252, "FC"},
+    {253, "FD 01"},
+    {380, "FD 80"},
+    {507, "FD FF"},
+    {508, "FE 01 00"},
+    {4912, "FE 12 34"},
+    {65787, "FE FF FF"},
+};
+
+/* "An address to 252 is one octet; 253 is followed by two octets, 254 by four, 255 by a length and that many octets." */
+static const struct field NSA_ADDRESSES[] = {
+    {1, "01"},
+    {252, "FC"},
+    {253, "FD 00 FD"},
+    {0x1234, "FD 12 34"},
+    {65535, "FD FF FF"},
+    {65536, "FE 00 01 00 00"},
+    {0x12345678, "FE 12 34 56 78"},
+    {(UINT64_C(1) << 32) - 1, "FE FF FF FF FF"},
+    {UINT64_C(1) << 32, "FF 05 01 00 00 00 00"},
+    {(UINT64_C(1) << 40) - 1, "FF 05 FF FF FF FF FF"},
+    {UINT64_C(1) << 40, "FF 06 01 00 00 00 00 00"},
+    {(UINT64_C(1) << 48) - 1, "FF 06 FF FF FF FF FF FF"},
+    {UINT64_C(1) << 48, "FF 07 01 00 00 00 00 00 00"},
+    {(UINT64_C(1) << 56) - 1, "FF 07 FF FF FF FF FF FF FF"},
+    {UINT64_C(1) << 56, "FF 08 01 00 00 00 00 00 00 00"},
+    {UINT64_C(0x123456789ABCDEF0), "FF 08 12 34 56 78 9A BC DE F0"},
+    {UINT64_MAX, "FF 08 FF FF FF FF FF FF FF FF"},
+};
+
+enum { LENGTHS = sizeof NSA_LENGTHS / sizeof *NSA_LENGTHS, ADDRESSES = sizeof NSA_ADDRESSES / sizeof *NSA_ADDRESSES };
+
+/* The numbers of the three fields in a row. */
+struct numbers {
+    uint64_t length, source, destination;
+};
+
+/* The fields are read from the front of so many octets, and the octets stay as they were. */
+static void nsa_read_as(const char *what, struct octets lent, size_t count, struct numbers numbers, size_t place, uint8_t refusal)
+{
+    char part[192];
+    const struct octets before = lent;
+    struct pasa_nsa got = pasa_nsa_read(lent.bytes, count);
+    snprintf(part, sizeof part, "%s, %zu octets: the payload length", what, count);
+    same(part, got.length, numbers.length);
+    snprintf(part, sizeof part, "%s, %zu octets: the source", what, count);
+    same(part, got.source, numbers.source);
+    snprintf(part, sizeof part, "%s, %zu octets: the destination", what, count);
+    same(part, got.destination, numbers.destination);
+    snprintf(part, sizeof part, "%s, %zu octets: the place", what, count);
+    same(part, got.place, place);
+    snprintf(part, sizeof part, "%s, %zu octets: the refusal", what, count);
+    same(part, got.refusal, refusal);
+    snprintf(part, sizeof part, "%s, %zu octets: the octets read", what, count);
+    same(part, memcmp(lent.bytes, before.bytes, sizeof lent.bytes) != 0, 0);
+}
+
+/* In a refusal all four numbers are 0. */
+static void nsa_refused(const char *digits, uint8_t refusal)
+{
+    struct octets lent = octets(digits);
+    nsa_read_as(digits, lent, lent.count, (struct numbers){0, 0, 0}, 0, refusal);
+}
+
+/* More octets than the fields may have, and what each holds before. */
+enum { NSA_LENT = PASA_NSA_MOST + 9, NSA_BEFORE = 0x55 };
+
+/* The fields are written as these octets, or as none with a refusal, and what stands behind them stays as it was. */
+static void nsa_written_as(const char *what, struct numbers numbers, size_t room, struct octets expected, uint8_t refusal)
+{
+    char part[192];
+    uint8_t out[NSA_LENT];
+    memset(out, NSA_BEFORE, sizeof out);
+    struct pasa_written got = pasa_nsa_write(numbers.length, numbers.source, numbers.destination, out, room);
+    snprintf(part, sizeof part, "%s in %zu octets: the octets written", what, room);
+    same(part, got.count, expected.count);
+    snprintf(part, sizeof part, "%s in %zu octets: the refusal", what, room);
+    same(part, got.refusal, refusal);
+    snprintf(part, sizeof part, "%s in %zu", what, room);
+    same_octets(part, out, expected.bytes, expected.count);
+    size_t changed = 0;
+    for (size_t i = expected.count; i < sizeof out; i++)
+        changed += out[i] != NSA_BEFORE;
+    snprintf(part, sizeof part, "%s in %zu octets: octets changed behind them", what, room);
+    same(part, changed, 0);
+}
+
+/* "Whatever is accepted is what we would write, and the reverse": three fields are written into as many octets as they have or more, and no fewer;
+ * they are read whatever stands behind them, and without their last octets they end too early. */
+static void nsa_both_ways(struct field length, struct field source, struct field destination)
+{
+    char digits[96];
+    snprintf(digits, sizeof digits, "%s %s %s", length.digits, source.digits, destination.digits);
+    const struct octets none = {{0}, 0}, whole = octets(digits);
+    const struct numbers numbers = {length.number, source.number, destination.number}, zeros = {0, 0, 0};
+    for (size_t room = 0; room < whole.count; room++)
+        nsa_written_as(digits, numbers, room, none, PASA_NO_ROOM);
+    nsa_written_as(digits, numbers, whole.count, whole, PASA_DONE);
+    nsa_written_as(digits, numbers, whole.count + 1, whole, PASA_DONE);
+    nsa_written_as(digits, numbers, NSA_LENT, whole, PASA_DONE);
+
+    for (size_t count = 0; count < whole.count; count++)
+        nsa_read_as(digits, whole, count, zeros, 0, PASA_ENDS_EARLY);
+    nsa_read_as(digits, whole, whole.count, numbers, whole.count, PASA_DONE);
+    for (unsigned behind = 0; behind < 256; behind += 255) {
+        struct octets more = whole;
+        memset(more.bytes + whole.count, (int)behind, sizeof more.bytes - whole.count);
+        nsa_read_as(digits, more, whole.count + 1, numbers, whole.count, PASA_DONE);
+        nsa_read_as(digits, more, sizeof more.bytes, numbers, whole.count, PASA_DONE);
+    }
+}
+
+/* Each field beside the shortest ones and beside the longest. */
+static void nsa_fields(void)
+{
+    const struct field shortest = NSA_ADDRESSES[0], longest = NSA_ADDRESSES[ADDRESSES - 1];
+    const struct field short_length = NSA_LENGTHS[0], long_length = NSA_LENGTHS[LENGTHS - 1];
+    for (size_t i = 0; i < LENGTHS; i++) {
+        nsa_both_ways(NSA_LENGTHS[i], shortest, shortest);
+        nsa_both_ways(NSA_LENGTHS[i], longest, longest);
+    }
+    for (size_t i = 0; i < ADDRESSES; i++) {
+        nsa_both_ways(short_length, NSA_ADDRESSES[i], shortest);
+        nsa_both_ways(long_length, NSA_ADDRESSES[i], longest);
+        nsa_both_ways(short_length, shortest, NSA_ADDRESSES[i]);
+        nsa_both_ways(long_length, longest, NSA_ADDRESSES[i]);
+    }
+    same("the most octets of the fields", PASA_NSA_MOST, 23);
+    struct octets most = octets("FE FF FF FF 08 FF FF FF FF FF FF FF FF FF 08 FF FF FF FF FF FF FF FF");
+    nsa_written_as("the longest fields", (struct numbers){65787, UINT64_MAX, UINT64_MAX}, 23, most, PASA_DONE);
+    same("the longest fields: their octets", most.count, PASA_NSA_MOST);
+}
+
+/* What may stand behind a faulty field, "The first faulty field decides": nothing, right fields, and fields that end early or have a fault. */
+static const char *const NSA_BEHIND[] = {"", "01", "01 01", "00", "01 00", "FD", "FD 00 FC", "FF", "FF 04", "01 FF 09"};
+enum { BEHINDS = sizeof NSA_BEHIND / sizeof *NSA_BEHIND };
+
+static void nsa_refused_whatever_follows(const char *front, const char *field, uint8_t refusal)
+{
+    for (size_t i = 0; i < BEHINDS; i++) {
+        char digits[160];
+        snprintf(digits, sizeof digits, "%s %s %s", front, field, NSA_BEHIND[i]);
+        nsa_refused(digits, refusal);
+    }
+}
+
+/* "Only the shortest form is accepted: otherwise 6"; "255 is refused with 6"; "Within a field a missing octet is 4 and comes before any judgement of
+ * the value" */
+static void nsa_payload_lengths_refused(void)
+{
+    nsa_refused_whatever_follows("", "FD 00", PASA_WRONG_SIZE);
+    nsa_refused_whatever_follows("", "FE 00 00", PASA_WRONG_SIZE);
+    nsa_refused_whatever_follows("", "FE 00 01", PASA_WRONG_SIZE);
+    nsa_refused_whatever_follows("", "FE 00 FF", PASA_WRONG_SIZE);
+    nsa_refused_whatever_follows("", "FF", PASA_WRONG_SIZE);
+    nsa_refused("", PASA_ENDS_EARLY);
+    nsa_refused("FD", PASA_ENDS_EARLY);
+    nsa_refused("FE", PASA_ENDS_EARLY);
+    nsa_refused("FE 00", PASA_ENDS_EARLY);
+    nsa_refused("FE 01", PASA_ENDS_EARLY);
+    nsa_refused("FE FF", PASA_ENDS_EARLY);
+    /* a right length, and no source behind it */
+    nsa_refused("FD 01", PASA_ENDS_EARLY);
+    nsa_refused("FE 01 00", PASA_ENDS_EARLY);
+}
+
+/* What stands before an address: for a source a payload length, for a destination a source too. */
+static const char *const NSA_FRONTS[] = {
+    "00", "FE FF FF", "00 01", "FD 01 FD 00 FD", "00 FF 08 FF FF FF FF FF FF FF FF",
+};
+enum { FRONTS = sizeof NSA_FRONTS / sizeof *NSA_FRONTS };
+
+/* "so after 255 the length is 5 to 8 and its first octet isn't zero. Address zero in one octet is 9, longer zeros are 6."; "the length octet after
+ * 255 is judged before its address octets are looked for" */
+static const struct fault {
+    const char *digits;
+    uint8_t refusal;
+} NSA_FAULTS[] = {
+    {"00", PASA_ZERO_ADDRESS},
+    {"FD 00 00", PASA_WRONG_SIZE},
+    {"FD 00 01", PASA_WRONG_SIZE},
+    {"FD 00 FC", PASA_WRONG_SIZE},
+    {"FE 00 00 00 00", PASA_WRONG_SIZE},
+    {"FE 00 00 00 FD", PASA_WRONG_SIZE},
+    {"FE 00 00 FF FF", PASA_WRONG_SIZE},
+    {"FF 00", PASA_WRONG_SIZE},
+    {"FF 01 FD", PASA_WRONG_SIZE}, /* as many octets as FD 00 FD */
+    {"FF 02 FF FF", PASA_WRONG_SIZE},
+    {"FF 03 01 00 00", PASA_WRONG_SIZE}, /* as many octets as FE 00 01 00 00 */
+    {"FF 04", PASA_WRONG_SIZE},
+    {"FF 04 FF FF FF FF", PASA_WRONG_SIZE},
+    {"FF 05 00 00 00 00 00", PASA_WRONG_SIZE},
+    {"FF 05 00 FF FF FF FF", PASA_WRONG_SIZE},
+    {"FF 06 00 00 00 00 00 00", PASA_WRONG_SIZE},
+    {"FF 06 00 FF FF FF FF FF", PASA_WRONG_SIZE},
+    {"FF 07 00 00 00 00 00 00 00", PASA_WRONG_SIZE},
+    {"FF 07 00 FF FF FF FF FF FF", PASA_WRONG_SIZE},
+    {"FF 08 00 00 00 00 00 00 00 00", PASA_WRONG_SIZE},
+    {"FF 08 00 FF FF FF FF FF FF FF", PASA_WRONG_SIZE},
+    {"FF 09", PASA_WRONG_SIZE},
+    {"FF 09 00 01 00 00 00 00 00 00 00", PASA_WRONG_SIZE},
+    {"FF 09 01 00 00 00 00 00 00 00 00", PASA_WRONG_SIZE},
+    {"FF 0D", PASA_WRONG_SIZE}, /* 5 but for one bit */
+    {"FF 85", PASA_WRONG_SIZE},
+    {"FF FF", PASA_WRONG_SIZE},
+};
+
+/* Addresses whose last octets are missing, also where those that are there begin no right one. */
+static const char *const NSA_EARLY[] = {
+    "",
+    "FD",
+    "FD 00",
+    "FD FF",
+    "FE",
+    "FE 00",
+    "FE 00 00",
+    "FE 00 00 00",
+    "FE 00 01 00",
+    "FF",
+    "FF 05",
+    "FF 05 00",
+    "FF 05 00 00 00 00",
+    "FF 05 01 00 00 00",
+    "FF 06",
+    "FF 06 00 FF FF FF FF",
+    "FF 07",
+    "FF 07 00 FF FF FF FF FF",
+    "FF 08",
+    "FF 08 00",
+    "FF 08 00 FF FF FF FF FF FF",
+    "FF 08 FF FF FF FF FF FF FF",
+};
+
+static void nsa_addresses_refused(void)
+{
+    for (size_t i = 0; i < FRONTS; i++) {
+        for (size_t j = 0; j < sizeof NSA_FAULTS / sizeof *NSA_FAULTS; j++)
+            nsa_refused_whatever_follows(NSA_FRONTS[i], NSA_FAULTS[j].digits, NSA_FAULTS[j].refusal);
+        for (size_t j = 0; j < sizeof NSA_EARLY / sizeof *NSA_EARLY; j++) {
+            char digits[160];
+            snprintf(digits, sizeof digits, "%s %s", NSA_FRONTS[i], NSA_EARLY[j]);
+            nsa_refused(digits, PASA_ENDS_EARLY);
+        }
+    }
+    for (unsigned length = 0; length < 256; length++) {
+        char digits[16];
+        bool right = length >= 5 && length <= 8;
+        snprintf(digits, sizeof digits, "00 FF %02X", length);
+        nsa_refused(digits, right ? PASA_ENDS_EARLY : PASA_WRONG_SIZE);
+        snprintf(digits, sizeof digits, "00 01 FF %02X", length);
+        nsa_refused(digits, right ? PASA_ENDS_EARLY : PASA_WRONG_SIZE);
+    }
+}
+
+/* Whatever the room is, also where there is none. */
+static void nsa_not_written(struct numbers numbers, uint8_t refusal)
+{
+    char what[128];
+    const size_t rooms[] = {0, 2, 3, PASA_NSA_MOST, NSA_LENT};
+    snprintf(what, sizeof what, "length %" PRIu64 ", source %" PRIu64 ", destination %" PRIu64, numbers.length, numbers.source, numbers.destination);
+    for (size_t i = 0; i < sizeof rooms / sizeof *rooms; i++)
+        nsa_written_as(what, numbers, rooms[i], (struct octets){{0}, 0}, refusal);
+}
+
+/* "A length to write above 65,787 is 14, checked first; then 9; then 10." */
+static void nsa_writings_refused(void)
+{
+    const uint64_t above[] = {65788, 65789, 65536 + 65787, 1 << 24, UINT64_C(1) << 32, (UINT64_C(1) << 32) + 252, UINT64_C(1) << 63,
+                              UINT64_MAX - 251, UINT64_MAX};
+    const uint64_t addresses[] = {0, 1, UINT64_C(1) << 32, UINT64_MAX};
+    for (size_t source = 0; source < 4; source++)
+        for (size_t destination = 0; destination < 4; destination++) {
+            for (size_t i = 0; i < sizeof above / sizeof *above; i++)
+                nsa_not_written((struct numbers){above[i], addresses[source], addresses[destination]}, PASA_TOO_MANY);
+            for (size_t i = 0; i < LENGTHS && (source == 0 || destination == 0); i++)
+                nsa_not_written((struct numbers){NSA_LENGTHS[i].number, addresses[source], addresses[destination]}, PASA_ZERO_ADDRESS);
+        }
+}
+
+static void nsa_by_null_pointers(void)
+{
+    same("no fields: the refusal", pasa_nsa_read(NULL, 0).refusal, PASA_ENDS_EARLY);
+    same("no fields: the place", pasa_nsa_read(NULL, 0).place, 0);
+    same("no buffer for fields", pasa_nsa_write(0, 1, 1, NULL, 0).refusal, PASA_NO_ROOM);
+    same("no buffer, and a source of zero", pasa_nsa_write(0, 0, 1, NULL, 0).refusal, PASA_ZERO_ADDRESS);
+    same("no buffer, and a destination of zero", pasa_nsa_write(0, 1, 0, NULL, 0).refusal, PASA_ZERO_ADDRESS);
+    same("no buffer, zeros, and a length above 65,787", pasa_nsa_write(65788, 0, 0, NULL, 0).refusal, PASA_TOO_MANY);
 }
 
 static void path_as(const char *first, const char *second, const char *const *expected, size_t addresses)
@@ -1416,6 +1732,11 @@ int main(void)
     next_hops();
     headers();
     ipv6_forms();
+    nsa_fields();
+    nsa_payload_lengths_refused();
+    nsa_addresses_refused();
+    nsa_writings_refused();
+    nsa_by_null_pointers();
     paths();
     plans_in_the_grammar();
     plans_outside_the_grammar();

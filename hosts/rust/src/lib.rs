@@ -1,4 +1,5 @@
-//! PASA addresses in Rust: children and limits on them, next hops, packet headers, IPv6 forms, paths, hall plans and journals, by the proved functions of libpasa.a.
+//! PASA addresses in Rust: children and limits on them, next hops, packet headers, IPv6 forms, the older NSA fields, paths, hall plans and journals,
+//! by the proved functions of libpasa.a.
 //!
 //! ```
 //! use pasa::{Address, Hop, Node};
@@ -61,6 +62,7 @@ mod hop;
 mod ipv6;
 mod journal;
 mod node;
+mod nsa;
 mod plan;
 mod refusal;
 mod route;
@@ -72,6 +74,7 @@ pub use hop::Hop;
 pub use ipv6::{read_ipv6, write_ipv6, IPV6_PREFIX, IPV6_WHOLE};
 pub use journal::{crc, recover_journal, recovered_record, write_block, BLOCK_MOST, NODES, SLOT, SLOTS};
 pub use node::{Node, NO_CAP};
+pub use nsa::{read_nsa, write_nsa, NsaFields, NSA_MOST};
 pub use plan::{read_plan, PlanRefusal, PLAN_BYTES, PLAN_NODES};
 pub use refusal::Refusal;
 pub use route::{path, PATH_MOST};

@@ -106,7 +106,8 @@ mod tests {
         assert_eq!(refused.to_string(), "refused 13: a plan's text is outside the grammar, at place 8");
         let refused = answer(0, 8, 14).unwrap_err();
         assert_eq!(refused.place(), None);
-        assert_eq!(refused.to_string(), "refused 14: a plan has too many bytes, or a plan or a journal too many nodes");
+        let text = "refused 14: a plan has too many bytes, a plan or a journal too many nodes, or an NSA payload length is above 65,787";
+        assert_eq!(refused.to_string(), text);
         assert_eq!(Refusal::from(refused), Refusal::TooMany);
     }
 

@@ -36,7 +36,7 @@ const TABLE: [(Refusal, &str); 16] = [
     (Refusal::TooLong, "the child would be longer than 64 bits"),
     (Refusal::EndsEarly, "the packet ends too early"),
     (Refusal::WrongStart, "one of the first three octets is wrong"),
-    (Refusal::WrongSize, "a size above 8, or a first octet of zero where there are several"),
+    (Refusal::WrongSize, "a size above 8, a first octet of zero where there are several, or an NSA field that isn't in its shortest form"),
     (Refusal::ChildNotGiven, "destination below this node, child not given"),
     (Refusal::OtherPrefix, "IPv6 prefix differs"),
     (Refusal::ZeroAddress, "an address is zero"),
@@ -47,7 +47,7 @@ const TABLE: [(Refusal, &str); 16] = [
         "an IPv6 address isn't 16 octets, a prefix isn't 8, a journal isn't 1 to 128 slots, or a block isn't 1 to 63 addresses",
     ),
     (Refusal::BadPlan, "a plan's text is outside the grammar"),
-    (Refusal::TooMany, "a plan has too many bytes, or a plan or a journal too many nodes"),
+    (Refusal::TooMany, "a plan has too many bytes, a plan or a journal too many nodes, or an NSA payload length is above 65,787"),
     (Refusal::AtLimit, "a node is asked for a child at its limit"),
     (Refusal::BadJournal, "a journal's slot is out of place or no right block, or an address in it is no next child"),
 ];

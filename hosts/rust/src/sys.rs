@@ -67,6 +67,17 @@ pub struct Address {
     pub refusal: u8,
 }
 
+/// An NSA reader's answer.
+#[repr(C)]
+#[derive(Clone, Copy, Debug, PartialEq, Eq)]
+pub struct Nsa {
+    pub length: u64,
+    pub source: u64,
+    pub destination: u64,
+    pub place: usize,
+    pub refusal: u8,
+}
+
 /// A path's answer.
 #[repr(C)]
 #[derive(Clone, Copy, Debug, PartialEq, Eq)]
@@ -146,6 +157,8 @@ extern "C" {
     pub fn pasa_header_read(packet: *const u8, packet_length: usize) -> Read;
     pub fn pasa_ipv6_write(prefix: *const u8, prefix_length: usize, address: u64, out: *mut u8, out_length: usize) -> Written;
     pub fn pasa_ipv6_read(prefix: *const u8, prefix_length: usize, ipv6: *const u8, ipv6_length: usize) -> Address;
+    pub fn pasa_nsa_write(length: u64, source: u64, destination: u64, out: *mut u8, out_length: usize) -> Written;
+    pub fn pasa_nsa_read(fields: *const u8, fields_length: usize) -> Nsa;
     pub fn pasa_path(first: u64, second: u64, words: *mut u64, words_length: usize) -> Listed;
     pub fn pasa_plan_read(text: *const u8, text_length: usize, words: *mut u64, words_length: usize) -> Plan;
     pub fn pasa_journal_write(journal: *mut u8, journal_length: usize, addresses: *const u64, addresses_length: usize) -> Block;
@@ -174,6 +187,9 @@ mod tests {
         assert_eq!(size_of::<Read>(), 24);
         assert_eq!((offset_of!(Read, address), offset_of!(Read, place), offset_of!(Read, refusal)), (0, 8, 16));
         assert_eq!((size_of::<Address>(), offset_of!(Address, address), offset_of!(Address, refusal)), (16, 0, 8));
+        assert_eq!(size_of::<Nsa>(), 40);
+        assert_eq!((offset_of!(Nsa, length), offset_of!(Nsa, source), offset_of!(Nsa, destination)), (0, 8, 16));
+        assert_eq!((offset_of!(Nsa, place), offset_of!(Nsa, refusal)), (24, 32));
         assert_eq!((size_of::<Listed>(), offset_of!(Listed, hops), offset_of!(Listed, refusal)), (8, 0, 4));
         assert_eq!(size_of::<Plan>(), 24);
         assert_eq!((offset_of!(Plan, nodes), offset_of!(Plan, place), offset_of!(Plan, refusal)), (0, 8, 16));

@@ -147,6 +147,29 @@ fn headers_and_ipv6_forms() {
 }
 
 #[test]
+fn older_fields() {
+    let fields = |length| pasa::NsaFields { length, source: address("111110"), destination: address("100000000") };
+    let mut out = [0; pasa::NSA_MOST];
+    assert_eq!(pasa::write_nsa(fields(253), &mut out), Ok(6));
+    assert_eq!(out[..7], [0xFD, 0x01, 0x3E, 0xFD, 0x01, 0x00, 0x00]);
+    assert_eq!(pasa::read_nsa(&out), Ok((fields(253), 6)));
+    assert_eq!(pasa::read_nsa(&out[..6]), Ok((fields(253), 6)));
+    assert_eq!(pasa::read_nsa(&out[..5]), Err(Refusal::EndsEarly));
+    assert_eq!(pasa::read_nsa(&[0xFF]), Err(Refusal::WrongSize));
+    assert_eq!(pasa::read_nsa(&[0x00, 0xFD, 0x00, 0x3E, 0x01]), Err(Refusal::WrongSize));
+    assert_eq!(pasa::read_nsa(&[0x00, 0x00]), Err(Refusal::ZeroAddress));
+    let before = out;
+    assert_eq!(pasa::write_nsa(fields(0), &mut out[..4]), Err(Refusal::NoRoom));
+    assert_eq!(pasa::write_nsa(fields(65_788), &mut out), Err(Refusal::TooMany));
+    assert_eq!(pasa::write_nsa(fields(u64::MAX), &mut out[..0]), Err(Refusal::TooMany));
+    assert_eq!(out, before);
+    let last = Address::new(u64::MAX).unwrap();
+    let most = pasa::NsaFields { length: 65_787, source: last, destination: last };
+    assert_eq!(pasa::write_nsa(most, &mut out), Ok(pasa::NSA_MOST));
+    assert_eq!(pasa::read_nsa(&out), Ok((most, pasa::NSA_MOST)));
+}
+
+#[test]
 fn paths() {
     let mut words = [0; 126];
     assert_eq!(pasa::path(address("10011"), address("101011"), &mut words), Ok(4));
