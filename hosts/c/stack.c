@@ -42,6 +42,7 @@ union answer {
     struct pasa_written written;
     struct pasa_read read;
     struct pasa_address address;
+    struct pasa_nsa nsa;
     struct pasa_listed listed;
     struct pasa_plan plan;
     struct pasa_block block;
@@ -342,6 +343,96 @@ static void ipv6_read(void)
     same("a form of zero read", answer.address.refusal, PASA_ZERO_ADDRESS);
 }
 
+/* A form of a field of NSA: the largest number that is written so, and how many octets it has. */
+struct form {
+    uint64_t number;
+    size_t octets;
+};
+
+static const struct form NSA_LENGTHS[] = {{252, 1}, {507, 2}, {65787, 3}};
+static const struct form NSA_ADDRESSES[] = {
+    {252, 1}, {65535, 3}, {UINT32_MAX, 5}, {UINT64_MAX >> 24, 7}, {UINT64_MAX >> 16, 8}, {UINT64_MAX >> 8, 9}, {UINT64_MAX, 10},
+};
+
+enum { LENGTH_FORMS = sizeof NSA_LENGTHS / sizeof *NSA_LENGTHS, ADDRESS_FORMS = sizeof NSA_ADDRESSES / sizeof *NSA_ADDRESSES };
+
+/* Calls with a length of each form, a source of each form and a destination of each form. */
+static void of_each_form(void (*calls)(struct form length, struct form source, struct form destination))
+{
+    for (size_t i = 0; i < LENGTH_FORMS; i++)
+        for (size_t j = 0; j < ADDRESS_FORMS; j++)
+            for (size_t k = 0; k < ADDRESS_FORMS; k++)
+                calls(NSA_LENGTHS[i], NSA_ADDRESSES[j], NSA_ADDRESSES[k]);
+}
+
+static void nsa_write_into(struct form length, struct form source, struct form destination)
+{
+    uint8_t octets[PASA_NSA_MOST];
+    for (size_t room = 0; room <= sizeof octets; room++) {
+        CALL(length.number, source.number, destination.number, WORD(octets), room);
+        same("fields", answer.written.refusal, room < length.octets + source.octets + destination.octets ? PASA_NO_ROOM : PASA_DONE);
+    }
+}
+
+static void nsa_write(void)
+{
+    uint8_t octets[PASA_NSA_MOST];
+    of_each_form(nsa_write_into);
+    CALL(65788, 1, 1, WORD(octets), sizeof octets);
+    same("fields of a length too large", answer.written.refusal, PASA_TOO_MANY);
+    CALL(0, 0, 1, WORD(octets), sizeof octets);
+    same("fields of source zero", answer.written.refusal, PASA_ZERO_ADDRESS);
+    CALL(0, 1, 0, WORD(octets), sizeof octets);
+    same("fields of destination zero", answer.written.refusal, PASA_ZERO_ADDRESS);
+}
+
+/* The fields whole, and without their last octets. */
+static void nsa_read_from(struct form length, struct form source, struct form destination)
+{
+    uint8_t octets[PASA_NSA_MOST];
+    size_t whole = pasa_nsa_write(length.number, source.number, destination.number, octets, sizeof octets).count;
+    for (size_t count = 0; count <= whole; count++) {
+        CALL(ANSWER, WORD(octets), count);
+        same("fields read", answer.nsa.refusal, count < whole ? PASA_ENDS_EARLY : PASA_DONE);
+    }
+}
+
+/* Payload lengths that no reader takes. */
+static const struct packet NSA_BAD_LENGTHS[] = {
+    {{0xFD, 0x00}, 2, PASA_WRONG_SIZE},
+    {{0xFE, 0x00, 0xFF}, 3, PASA_WRONG_SIZE},
+    {{0xFF}, 1, PASA_WRONG_SIZE},
+};
+
+/* And such addresses. */
+static const struct packet NSA_BAD_ADDRESSES[] = {
+    {{0x00}, 1, PASA_ZERO_ADDRESS},
+    {{0xFD, 0x00, 0xFC}, 3, PASA_WRONG_SIZE},
+    {{0xFE, 0x00, 0x00, 0xFF, 0xFF}, 5, PASA_WRONG_SIZE},
+    {{0xFF, 0x04}, 2, PASA_WRONG_SIZE},
+    {{0xFF, 0x09}, 2, PASA_WRONG_SIZE},
+    {{0xFF, 0x05, 0x00, 1, 1, 1, 1}, 7, PASA_WRONG_SIZE},
+    {{0xFF, 0x06, 0x00, 1, 1, 1, 1, 1}, 8, PASA_WRONG_SIZE},
+    {{0xFF, 0x07, 0x00, 1, 1, 1, 1, 1, 1}, 9, PASA_WRONG_SIZE},
+    {{0xFF, 0x08, 0x00, 1, 1, 1, 1, 1, 1, 1}, 10, PASA_WRONG_SIZE},
+};
+
+static void nsa_read(void)
+{
+    of_each_form(nsa_read_from);
+    for (size_t i = 0; i < sizeof NSA_BAD_LENGTHS / sizeof *NSA_BAD_LENGTHS; i++) {
+        CALL(ANSWER, WORD(NSA_BAD_LENGTHS[i].octets), NSA_BAD_LENGTHS[i].length);
+        same("a bad length read", answer.nsa.refusal, NSA_BAD_LENGTHS[i].refusal);
+    }
+    for (size_t i = 0; i < sizeof NSA_BAD_ADDRESSES / sizeof *NSA_BAD_ADDRESSES; i++)
+        for (size_t before = 1; before <= 2; before++) {
+            uint8_t octets[PASA_NSA_MOST] = {1, 1}; /* a length, or a length and a source */
+            memcpy(octets + before, NSA_BAD_ADDRESSES[i].octets, NSA_BAD_ADDRESSES[i].length);
+            CALL(ANSWER, WORD(octets), before + NSA_BAD_ADDRESSES[i].length);
+            same("a bad address read", answer.nsa.refusal, NSA_BAD_ADDRESSES[i].refusal);
+        }
+}
+
 static void path(void)
 {
     const uint64_t ends[] = {0, 1, 2, 3, 6, 19, 43, UINT64_C(1) << 63, UINT64_C(3) << 62, (UINT64_C(1) << 63) + 1, UINT64_MAX};
@@ -554,6 +645,8 @@ static const struct {
     EXPORT(pasa_header_read, header_read),
     EXPORT(pasa_ipv6_write, ipv6_write),
     EXPORT(pasa_ipv6_read, ipv6_read),
+    EXPORT(pasa_nsa_write, nsa_write),
+    EXPORT(pasa_nsa_read, nsa_read),
     EXPORT(pasa_path, path),
     EXPORT(pasa_plan_read, plan_read),
     EXPORT(pasa_journal_write, journal_write),
