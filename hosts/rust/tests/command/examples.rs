@@ -64,6 +64,7 @@ fn in_help() {
         ("journal", 7),
         ("header", 2),
         ("ipv6", 2),
+        ("nsa", 3),
     ] {
         let got = answer(&["help", command], "");
         assert!(tried(text(&got.stdout), &folder) >= least, "help {command} has too few examples");

@@ -6,7 +6,7 @@ fn said(line: &str) -> String {
     text(&got.stdout).to_string()
 }
 
-const NAMES: [&str; 11] = ["path", "next", "child", "limit", "plan", "draw", "trace", "journal", "header", "ipv6", "help"];
+const NAMES: [&str; 12] = ["path", "next", "child", "limit", "plan", "draw", "trace", "journal", "header", "ipv6", "nsa", "help"];
 
 #[test]
 fn help_lists_every_command() {
@@ -37,7 +37,7 @@ fn the_version() {
 #[test]
 fn wrong_usage() {
     misuses("", "a command");
-    misuses("paths 1 1", "a command (path, next, child, limit, plan, draw, trace, journal, header, ipv6, help), found 'paths'");
-    misuses("help paths", "a command (path, next, child, limit, plan, draw, trace, journal, header, ipv6, help), found 'paths'");
+    misuses("paths 1 1", "a command (path, next, child, limit, plan, draw, trace, journal, header, ipv6, nsa, help), found 'paths'");
+    misuses("help paths", "a command (path, next, child, limit, plan, draw, trace, journal, header, ipv6, nsa, help), found 'paths'");
     misuses_words(&["--versions"], "a command");
 }

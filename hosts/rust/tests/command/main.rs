@@ -8,6 +8,7 @@ mod ipv6;
 mod journal;
 mod limit;
 mod next;
+mod nsa;
 mod path;
 mod plan;
 mod trace;
@@ -82,7 +83,8 @@ const REFUSED_2: &str = "refused 2: a host is asked for a child";
 const REFUSED_3: &str = "refused 3: the child would be longer than 64 bits";
 const REFUSED_4: &str = "refused 4: the packet ends too early";
 const REFUSED_5: &str = "refused 5: one of the first three octets is wrong";
-const REFUSED_6: &str = "refused 6: a size above 8, or a first octet of zero where there are several";
+const REFUSED_6: &str =
+    "refused 6: a size above 8, a first octet of zero where there are several, or an NSA field that isn't in its shortest form";
 const REFUSED_7: &str = "refused 7: destination below this node, child not given";
 const REFUSED_8: &str = "refused 8: IPv6 prefix differs";
 const REFUSED_9: &str = "refused 9: an address is zero";
@@ -90,6 +92,7 @@ const REFUSED_10: &str = "refused 10: lent output too short, or no slot of a jou
 const REFUSED_12: &str =
     "refused 12: an IPv6 address isn't 16 octets, a prefix isn't 8, a journal isn't 1 to 128 slots, or a block isn't 1 to 63 addresses";
 const REFUSED_13: &str = "refused 13: a plan's text is outside the grammar";
-const REFUSED_14: &str = "refused 14: a plan has too many bytes, or a plan or a journal too many nodes";
+const REFUSED_14: &str =
+    "refused 14: a plan has too many bytes, a plan or a journal too many nodes, or an NSA payload length is above 65,787";
 const REFUSED_15: &str = "refused 15: a node is asked for a child at its limit";
 const REFUSED_17: &str = "refused 17: a journal's slot is out of place or no right block, or an address in it is no next child";

@@ -1,5 +1,5 @@
 //! The commands, and what `help` says of each.
-use crate::{child, draw, header, ipv6, journal, limit, next, path, plan, trace, Done, Failure};
+use crate::{child, draw, header, ipv6, journal, limit, next, nsa, path, plan, trace, Done, Failure};
 use std::ffi::OsString;
 use std::io::Write;
 
@@ -13,7 +13,7 @@ pub struct Command {
     pub run: fn(&[OsString], &mut dyn Write) -> Done,
 }
 
-static COMMANDS: [Command; 11] = [
+static COMMANDS: [Command; 12] = [
     path::COMMAND,
     next::COMMAND,
     child::COMMAND,
@@ -24,6 +24,7 @@ static COMMANDS: [Command; 11] = [
     journal::COMMAND,
     header::COMMAND,
     ipv6::COMMAND,
+    nsa::COMMAND,
     HELP,
 ];
 

@@ -1,4 +1,4 @@
-//! What is shown of an address that was read.
+//! What is shown of an address that was read, and of octets behind it.
 use pasa::Address;
 use std::fmt;
 use std::io::{self, Write};
@@ -33,9 +33,19 @@ impl fmt::Display for Kind {
     }
 }
 
+/// The address in binary digits and in hexadecimal.
+pub fn both(address: Address) -> String {
+    format!("{address} ({:#x})", address.number())
+}
+
+/// So many octets.
+pub fn octets(count: usize) -> String {
+    format!("{count} octet{}", if count == 1 { "" } else { "s" })
+}
+
 /// A line each for the address, its kind, its depth and its parent.
 pub fn describe(address: Address, out: &mut dyn Write) -> io::Result<()> {
-    writeln!(out, "address {address} ({:#x})", address.number())?;
+    writeln!(out, "address {}", both(address))?;
     writeln!(out, "kind    {}", Kind::of(address))?;
     writeln!(out, "depth   {}", address.depth())?;
     match address.parent() {

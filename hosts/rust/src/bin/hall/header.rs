@@ -1,6 +1,6 @@
 //! `hall header write A` and `hall header read HEX`.
 use crate::commands::{wrong, Command};
-use crate::describe::describe;
+use crate::describe::{describe, octets};
 use crate::{hex, input, text, Done, Failure};
 use pasa::{Address, HEADER_MOST};
 use std::ffi::OsString;
@@ -63,8 +63,4 @@ fn read(text: &str, out: &mut dyn Write) -> Result<(), Failure> {
     writeln!(out, "place   {place}")?;
     writeln!(out, "payload {}", octets(packet.len() - place))?;
     Ok(())
-}
-
-fn octets(count: usize) -> String {
-    format!("{count} octet{}", if count == 1 { "" } else { "s" })
 }

@@ -1,5 +1,6 @@
-//! `hall`: paths, next hops, children and limits, headers, IPv6 forms, hall plans, journals and whole trees on the command line. Every address and every hop that it
-//! prints is the answer of a proved function of libpasa.a; the text around them is this program's. docs/HALL.md describes it.
+//! `hall`: paths, next hops, children and limits, headers, IPv6 forms, the older NSA fields, hall plans, journals and whole trees on the command
+//! line. Every address and every hop that it prints is the answer of a proved function of libpasa.a; the text around them is this program's.
+//! docs/HALL.md describes it.
 mod child;
 mod commands;
 mod describe;
@@ -13,6 +14,7 @@ mod journal;
 mod kind;
 mod limit;
 mod next;
+mod nsa;
 mod path;
 mod plan;
 mod text;

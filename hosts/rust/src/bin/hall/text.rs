@@ -1,4 +1,4 @@
-//! Addresses and records as words of the command line.
+//! Addresses, records and other numbers as words of the command line.
 use crate::kind::Kind;
 use pasa::{Address, Node, Refusal, NO_CAP};
 use std::ffi::OsString;
@@ -89,6 +89,20 @@ pub fn record(word: &str) -> Result<Record, Expected> {
 /// The limit in a word; nothing where it is larger than any number of 64 bits.
 pub fn limit(word: &str) -> Result<Number<u64>, Expected> {
     decimal(word).ok_or_else(|| format!("a limit, 0 to {NO_CAP}, found '{word}'"))
+}
+
+fn hexadecimal(digits: &str) -> Option<Number<u64>> {
+    let is_number = !digits.is_empty() && digits.bytes().all(|digit| digit.is_ascii_hexdigit());
+    is_number.then(|| u64::from_str_radix(digits, 16).ok())
+}
+
+/// The payload length in a word; nothing where it is larger than any number of 64 bits.
+pub fn length(word: &str) -> Result<Number<u64>, Expected> {
+    let length = match word.strip_prefix("0x") {
+        Some(digits) => hexadecimal(digits),
+        None => decimal(word),
+    };
+    length.ok_or_else(|| format!("a payload length, decimal digits as 1280 or a number as 0x500, found '{word}'"))
 }
 
 impl Record {
