@@ -1,6 +1,7 @@
 //! Each export beside the specification on bit strings (`document`), on at least a million inputs: every small one, boundaries, damaged
 //! ones, every beginning of valid packets, and random ones by fixed seeds. A failure prints the input.
 mod document;
+mod fields;
 mod journals;
 mod limits;
 mod plans;
@@ -475,6 +476,8 @@ fn a_null_pointer_with_length_0() {
         assert_eq!(sys::pasa_header_read(null, 0), document::header_read(&[]));
         assert_eq!(sys::pasa_ipv6_write(null, 0, 1, null_mut, 0), document::ipv6_write(&[], 1, &mut []));
         assert_eq!(sys::pasa_ipv6_read(null, 0, null, 0), document::ipv6_read(&[], &[]));
+        assert_eq!(sys::pasa_nsa_write(1, 1, 1, null_mut, 0), document::nsa::write(1, 1, 1, &mut []));
+        assert_eq!(sys::pasa_nsa_read(null, 0), document::nsa::read(&[]));
         assert_eq!(sys::pasa_path(1, 1, null_mut.cast(), 0), document::path(1, 1, &mut []));
         assert_eq!(sys::pasa_plan_read(null, 0, null_mut.cast(), 0), document::plan::read(&[], &mut []));
         assert_eq!(sys::pasa_journal_write(null_mut, 0, null.cast(), 0), document::journal::write(&mut [], &[]));

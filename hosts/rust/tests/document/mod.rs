@@ -1,6 +1,7 @@
 //! The specification once more, on bit strings: written from its sentences alone, to be plain and not to be fast. It shares nothing with the
 //! proved code. The answers have the shapes of the exports, so that both can be compared whole.
 pub mod journal;
+pub mod nsa;
 pub mod plan;
 
 use pasa::sys::{Address, Child, Hop, Limited, Listed, Node, Read, Written};
