@@ -1,7 +1,8 @@
 /* A libFuzzer harness over everything of pasa.h that reads octets. Each input goes through pasa_header_read, pasa_packet_next_hop,
- * pasa_ipv6_read, pasa_plan_read and pasa_journal_recover, and what they answer is compared with reference.h; so are pasa_journal_write,
- * pasa_journal_record and pasa_crc on the same journals, and pasa_child_router, pasa_child_host, pasa_limit_routers and pasa_limit_hosts on the
- * same records. What is read as an address is written again, and must give the octets read.
+ * pasa_ipv6_read, pasa_nsa_read, pasa_plan_read and pasa_journal_recover, and what they answer is compared with reference.h; so are
+ * pasa_journal_write, pasa_journal_record and pasa_crc on the same journals, pasa_child_router, pasa_child_host, pasa_limit_routers and
+ * pasa_limit_hosts on the same records, and pasa_nsa_write on numbers that the octets spell. What is read as an address, or as the fields of NSA, is
+ * written again, and must give the octets read.
  *
  * The archive is not instrumented, so the octets lent stand once at the end and once at the beginning of mapped memory, with a page that
  * nobody may touch behind them or before them: one octet too far ends the run. What is lent for reading is compared with a copy afterwards,
@@ -169,6 +170,153 @@ static void forms(size_t prefix_length, const uint8_t *octets, size_t length)
             unchanged(lent_prefix, octets, prefix_length);
         }
     }
+}
+
+static bool same_fields(struct pasa_nsa got, struct pasa_nsa expected)
+{
+    return got.length == expected.length && got.source == expected.source && got.destination == expected.destination &&
+           got.place == expected.place && got.refusal == expected.refusal;
+}
+
+static void fail_with(uint64_t length, uint64_t source, uint64_t destination, const char *what, const uint8_t *octets, size_t count)
+{
+    fprintf(stderr, "length %" PRIu64 ", source %" PRIx64 ", destination %" PRIx64 "\n", length, source, destination);
+    fail(what, octets, count);
+}
+
+/* Three numbers into so many octets: the whole answer, and all that stands about the octets. What is written is read back. */
+static void numbers_into(uint64_t length, uint64_t source, uint64_t destination, size_t room)
+{
+    static uint8_t *page;
+    if (page == NULL)
+        page = guarded(PAGE);
+    uint8_t expected_page[PAGE], octets[PASA_NSA_MOST];
+    struct pasa_written expected = reference_nsa_write(length, source, destination, octets, room);
+    for (int at_end = 0; at_end < 2; at_end++) {
+        size_t at = at_end ? PAGE - room : 0;
+        memset(page, 0x5A, PAGE);
+        memset(expected_page, 0x5A, PAGE);
+        memcpy(expected_page + at, octets, expected.count);
+        struct pasa_written got = pasa_nsa_write(length, source, destination, page + at, room);
+        if (got.count != expected.count || got.refusal != expected.refusal) {
+            fprintf(stderr, "%zu octets, refusal %u in %zu octets, not %zu and %u\n", got.count, got.refusal, room, expected.count, expected.refusal);
+            fail_with(length, source, destination, "pasa_nsa_write differs at", octets, expected.count);
+        }
+        if (memcmp(page, expected_page, PAGE) != 0)
+            fail_with(length, source, destination, "pasa_nsa_write writes otherwise than", octets, expected.count);
+        if (got.refusal != PASA_DONE)
+            continue;
+        struct pasa_nsa back = {length, source, destination, expected.count, PASA_DONE};
+        if (!same_fields(pasa_nsa_read(page + at, room), back))
+            fail_with(length, source, destination, "what pasa_nsa_write writes is read otherwise", octets, expected.count);
+    }
+}
+
+/* The fields that are read are those that are written, into as many octets and into no fewer. */
+static void fields_again(struct pasa_nsa read, const uint8_t *octets)
+{
+    uint8_t written[PASA_NSA_MOST];
+    struct pasa_written again = pasa_nsa_write(read.length, read.source, read.destination, written, sizeof written);
+    if (again.refusal != PASA_DONE || again.count != read.place || memcmp(written, octets, read.place) != 0)
+        fail("the fields read are written otherwise", octets, read.place);
+    numbers_into(read.length, read.source, read.destination, read.place);
+    numbers_into(read.length, read.source, read.destination, read.place - 1);
+}
+
+static void fields(const uint8_t *octets, size_t count)
+{
+    static uint8_t *page;
+    if (page == NULL)
+        page = guarded(PAGE);
+    struct pasa_nsa expected = reference_nsa_read(octets, count);
+    for (int at_end = 0; at_end < 2; at_end++) {
+        uint8_t *lent = placed(page, PAGE, at_end, octets, count);
+        struct pasa_nsa got = pasa_nsa_read(lent, count);
+        unchanged(lent, octets, count);
+        if (!same_fields(got, expected)) {
+            fprintf(stderr, "place %zu, refusal %u, not %zu and %u\n", got.place, got.refusal, expected.place, expected.refusal);
+            fail_with(got.length, got.source, got.destination, "pasa_nsa_read differs at", octets, count);
+        }
+    }
+    if (expected.refusal == PASA_DONE)
+        fields_again(expected, octets);
+}
+
+/* A number that the octets from a place on spell: as the eight behind the first stand, or their front; a power of two, or one less; or one beside
+ * which the forms of NSA's fields change. */
+static uint64_t spelled_number(const uint8_t *octets, size_t count, size_t *place)
+{
+    static const uint64_t boundaries[10] = {0, 1, 252, 253, 507, 508, 65535, 65536, 65787, 65788};
+    uint64_t number = 0;
+    unsigned kind = *place < count ? octets[*place] % 4 : 3, more = *place < count ? octets[*place] / 4 : 0;
+    *place += 1;
+    if (kind == 3)
+        return boundaries[more % 10];
+    if (kind > 0)
+        return (UINT64_C(1) << more) - (kind - 1);
+    for (size_t i = 0; i < 8; i++) {
+        number = number << 8 | (*place < count ? octets[*place] : 0);
+        *place += 1;
+    }
+    return number >> more;
+}
+
+/* Three fields in a row, unless one of them has no form. */
+static void forms_in_a_row(struct nsa_form length, struct nsa_form source, struct nsa_form destination)
+{
+    const struct nsa_form row[3] = {length, source, destination};
+    uint8_t octets[PASA_NSA_MOST];
+    size_t count = 0;
+    for (size_t i = 0; i < 3; i++) {
+        if (row[i].count == 0)
+            return;
+        memcpy(octets + count, row[i].octets, row[i].count);
+        count += row[i].count;
+    }
+    fields(octets, count);
+}
+
+/* The numbers behind each mark, and each address behind 255 and each length up to 8, also where a shorter form has to be taken. */
+static void in_each_form(uint64_t length, uint64_t source, uint64_t destination)
+{
+    const struct nsa_form first = nsa_length(length), second = nsa_address(source), third = nsa_address(destination);
+    if (length >= 252)
+        for (uint8_t size = 1; size <= 2; size++)
+            forms_in_a_row(nsa_form(1, 252 + size, 0, length - 252, size), second, third);
+    for (uint8_t size = 2; size <= 4; size += 2) {
+        forms_in_a_row(first, nsa_form(1, 252 + size / 2, 0, source, size), third);
+        forms_in_a_row(first, second, nsa_form(1, 252 + size / 2, 0, destination, size));
+    }
+    for (uint8_t size = 1; size <= 8; size++) {
+        forms_in_a_row(first, nsa_form(2, 255, size, source, size), third);
+        forms_in_a_row(first, second, nsa_form(2, 255, size, destination, size));
+    }
+}
+
+/* Three numbers after three: each time written with room for all octets, for one less, and for as many as an octet says; and read in each form. */
+static void spelled_fields(const uint8_t *octets, size_t count)
+{
+    uint8_t out[PASA_NSA_MOST];
+    for (size_t place = 0; place < count;) {
+        uint64_t length = spelled_number(octets, count, &place);
+        uint64_t source = spelled_number(octets, count, &place);
+        uint64_t destination = spelled_number(octets, count, &place);
+        size_t whole = reference_nsa_write(length, source, destination, out, sizeof out).count;
+        numbers_into(length, source, destination, whole);
+        numbers_into(length, source, destination, whole > 0 ? whole - 1 : 0);
+        numbers_into(length, source, destination, octets[place % count] % 32);
+        in_each_form(length, source, destination);
+    }
+}
+
+/* All beginnings of the octets and all their ends are fields of NSA; then the octets spell numbers for others. */
+static void older_fields(const uint8_t *octets, size_t count)
+{
+    for (size_t i = 0; i <= count; i++) {
+        fields(octets + i, count - i);
+        fields(octets, i);
+    }
+    spelled_fields(octets, count);
 }
 
 /* One plan into so many words: the whole answer, and all that stands about the words. */
@@ -467,10 +615,11 @@ static void journals(const uint8_t *octets, size_t count)
     spelled_journal(octets, count);
 }
 
-/* All octets are a plan's text, and then spell another one; then they are a journal, and spell another one. Then the first twelve are a
- * node's record, if there are twelve, which is asked for children and set limits, and the packet follows: once with the record as it stands, once
- * with a shorter address and smaller counts and limits, so that more records are good. Then the octets behind the first are a prefix, of as many
- * octets as the first says, and an IPv6 address; and at last all octets are an IPv6 address with its own first eight for the prefix. */
+/* All octets are a plan's text, and then spell another one; then they are a journal, and spell another one; then they are fields of NSA, and spell
+ * numbers for others. Then the first twelve are a node's record, if there are twelve, which is asked for children and set limits, and the packet
+ * follows: once with the record as it stands, once with a shorter address and smaller counts and limits, so that more records are good. Then the
+ * octets behind the first are a prefix, of as many octets as the first says, and an IPv6 address; and at last all octets are an IPv6 address with its
+ * own first eight for the prefix. */
 int LLVMFuzzerTestOneInput(const uint8_t *data, size_t size)
 {
     if (size > LARGEST)
@@ -478,6 +627,7 @@ int LLVMFuzzerTestOneInput(const uint8_t *data, size_t size)
     plan(data, size);
     spelled_plan(data, size);
     journals(data, size);
+    older_fields(data, size);
     if (size < RECORD)
         return 0;
     struct pasa_node node = {0, data[8], data[9], data[10], data[11]};

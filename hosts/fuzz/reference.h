@@ -195,6 +195,149 @@ static struct pasa_address reference_ipv6_read(const uint8_t *prefix, size_t pre
     return answer;
 }
 
+/* A field of NSA as it is written: its octets, or none where the number has no such form. */
+struct nsa_form {
+    size_t count;
+    uint8_t octets[10];
+};
+
+/* A number in so many octets, high octet first, behind as many octets in front: none, a mark, or a mark and a length. */
+static struct nsa_form nsa_form(size_t front, uint8_t mark, uint8_t length, uint64_t number, size_t size)
+{
+    struct nsa_form form = {front + size, {mark, length}};
+    for (size_t place = form.count; place > front; place--) {
+        form.octets[place - 1] = (uint8_t)(number % 256);
+        number /= 256;
+    }
+    return number == 0 ? form : (struct nsa_form){0, {0}};
+}
+
+/* One octet alone, where it is no mark. */
+static struct nsa_form nsa_one_octet(uint64_t number)
+{
+    return number <= 252 ? nsa_form(0, 0, 0, number, 1) : (struct nsa_form){0, {0}};
+}
+
+/* The shorter of two forms; the first of them, where both are as long. */
+static struct nsa_form nsa_shorter(struct nsa_form first, struct nsa_form second)
+{
+    return second.count != 0 && (first.count == 0 || second.count < first.count) ? second : first;
+}
+
+/* "A payload length to 252 is one octet; 253 is followed by one octet and 254 by two, each plus 252": of all these forms the shortest. */
+static struct nsa_form nsa_length(uint64_t length)
+{
+    struct nsa_form form = nsa_one_octet(length);
+    if (length >= 252) {
+        form = nsa_shorter(form, nsa_form(1, 253, 0, length - 252, 1));
+        form = nsa_shorter(form, nsa_form(1, 254, 0, length - 252, 2));
+    }
+    return form;
+}
+
+/* "An address to 252 is one octet; 253 is followed by two octets, 254 by four, 255 by a length and that many octets.": of all these forms the
+ * shortest. With a length of 1 or 3 behind 255 a number may be as short as behind 253 or 254, but the request has 5 to 8: the lower mark counts. */
+static struct nsa_form nsa_address(uint64_t address)
+{
+    struct nsa_form form = nsa_one_octet(address);
+    form = nsa_shorter(form, nsa_form(1, 253, 0, address, 2));
+    form = nsa_shorter(form, nsa_form(1, 254, 0, address, 4));
+    for (uint8_t size = 1; size <= 8; size++)
+        form = nsa_shorter(form, nsa_form(2, 255, size, address, size));
+    return form;
+}
+
+/* "A length to write above 65,787 is 14, checked first; then 9; then 10.": a length is above that where it has no form. */
+static struct pasa_written reference_nsa_write(uint64_t length, uint64_t source, uint64_t destination, uint8_t *out, size_t room)
+{
+    struct pasa_written answer = {0, PASA_DONE};
+    const struct nsa_form forms[3] = {nsa_length(length), nsa_address(source), nsa_address(destination)};
+    if (forms[0].count == 0) {
+        answer.refusal = PASA_TOO_MANY;
+    } else if (source == 0 || destination == 0) {
+        answer.refusal = PASA_ZERO_ADDRESS;
+    } else if (room < forms[0].count + forms[1].count + forms[2].count) {
+        answer.refusal = PASA_NO_ROOM;
+    } else {
+        for (size_t i = 0; i < 3; i++)
+            for (size_t octet = 0; octet < forms[i].count; octet++)
+                out[answer.count++] = forms[i].octets[octet];
+    }
+    return answer;
+}
+
+/* Whether a length may stand behind 255: it does before the largest number of so many octets. */
+static bool nsa_is_size(uint8_t size)
+{
+    if (size == 0 || size > 8)
+        return false;
+    struct nsa_form form = nsa_address(UINT64_MAX >> 8 * (8 - size));
+    return form.octets[0] == 255 && form.octets[1] == size;
+}
+
+/* A field that is read: how many octets it has, its number, and its refusal. */
+struct nsa_field {
+    size_t count;
+    uint64_t number;
+    uint8_t refusal;
+};
+
+/* The number in so many octets behind those in front. "Within a field a missing octet is 4 and comes before any judgement of the value"; "Only the
+ * shortest form is accepted: otherwise 6"; "Address zero in one octet is 9, longer zeros are 6." */
+static struct nsa_field nsa_judged(const uint8_t *octets, size_t left, bool is_address, size_t front, size_t size)
+{
+    struct nsa_field field = {front + size, 0, PASA_DONE};
+    if (left < field.count) {
+        field.refusal = PASA_ENDS_EARLY;
+        return field;
+    }
+    for (size_t i = front; i < field.count; i++)
+        field.number = field.number * 256 + octets[i];
+    if (!is_address && front > 0)
+        field.number += 252;
+    struct nsa_form form = is_address ? nsa_address(field.number) : nsa_length(field.number);
+    if (form.count != field.count || memcmp(form.octets, octets, form.count) != 0)
+        field.refusal = PASA_WRONG_SIZE;
+    else if (is_address && field.number == 0)
+        field.refusal = PASA_ZERO_ADDRESS;
+    return field;
+}
+
+/* The field at the front of the octets that are left. "255 is refused with 6", as a payload length; "the length octet after 255 is judged before its
+ * address octets are looked for" */
+static struct nsa_field nsa_field(const uint8_t *octets, size_t left, bool is_address)
+{
+    static const size_t behind[2][2] = {{1, 2}, {2, 4}}; /* 253 and 254, of a payload length and of an address */
+    if (left == 0)
+        return (struct nsa_field){0, 0, PASA_ENDS_EARLY};
+    if (octets[0] <= 252)
+        return nsa_judged(octets, left, is_address, 0, 1);
+    if (octets[0] <= 254)
+        return nsa_judged(octets, left, is_address, 1, behind[is_address][octets[0] - 253]);
+    if (!is_address)
+        return (struct nsa_field){0, 0, PASA_WRONG_SIZE};
+    if (left == 1)
+        return (struct nsa_field){0, 0, PASA_ENDS_EARLY};
+    if (!nsa_is_size(octets[1]))
+        return (struct nsa_field){0, 0, PASA_WRONG_SIZE};
+    return nsa_judged(octets, left, is_address, 2, octets[1]);
+}
+
+/* "The first faulty field decides. The reader answers these and the place after them" */
+static struct pasa_nsa reference_nsa_read(const uint8_t *octets, size_t length)
+{
+    uint64_t numbers[3];
+    size_t place = 0;
+    for (size_t i = 0; i < 3; i++) {
+        struct nsa_field field = nsa_field(octets + place, length - place, i > 0);
+        if (field.refusal != PASA_DONE)
+            return (struct pasa_nsa){0, 0, 0, 0, field.refusal};
+        numbers[i] = field.number;
+        place += field.count;
+    }
+    return (struct pasa_nsa){numbers[0], numbers[1], numbers[2], place, PASA_DONE};
+}
+
 /* Whether a byte may stand in a plan behind the one before it, with so many groups open. Nothing may stand behind the root's group. */
 static bool may_follow(uint8_t before, uint8_t byte, size_t open)
 {
