@@ -10,8 +10,8 @@
 mod growth;
 mod simple;
 
-use pasa::sys::{self, Block, Child, Hop, Limited, Listed, Node, Plan, Read, Record, Recovered, Written};
-use pasa::{Address, BLOCK_MOST, NODES, PLAN_NODES, SLOT, SLOTS};
+use pasa::sys::{self, Block, Child, Hop, Limited, Listed, Node, Nsa, Plan, Read, Record, Recovered, Written};
+use pasa::{Address, BLOCK_MOST, NODES, NSA_MOST, PLAN_NODES, SLOT, SLOTS};
 use std::collections::HashMap;
 use std::env;
 use std::hint::black_box;
@@ -87,6 +87,16 @@ fn called_header_read(packet: &[u8]) -> Read {
 }
 
 #[inline(never)]
+fn called_nsa_write([length, source, destination]: [u64; 3], out: &mut [u8]) -> Written {
+    simple::nsa_write(length, source, destination, out)
+}
+
+#[inline(never)]
+fn called_nsa_read(octets: &[u8]) -> Nsa {
+    simple::nsa_read(octets)
+}
+
+#[inline(never)]
 fn called_path(first: u64, second: u64, words: &mut [u64]) -> Listed {
     simple::path(first, second, words)
 }
@@ -143,6 +153,14 @@ fn header_write(address: u64, out: &mut [u8]) -> Written {
 
 fn header_read(packet: &[u8]) -> Read {
     unsafe { sys::pasa_header_read(packet.as_ptr(), packet.len()) }
+}
+
+fn nsa_write([length, source, destination]: [u64; 3], out: &mut [u8]) -> Written {
+    unsafe { sys::pasa_nsa_write(length, source, destination, out.as_mut_ptr(), out.len()) }
+}
+
+fn nsa_read(octets: &[u8]) -> Nsa {
+    unsafe { sys::pasa_nsa_read(octets.as_ptr(), octets.len()) }
 }
 
 fn path(first: u64, second: u64, words: &mut [u64]) -> Listed {
@@ -320,6 +338,45 @@ fn journal_rows(random: &mut Random) {
     let writers = [write, called_write, simple::journal_write];
     row("write, the first block, 63 addresses", writing_times(&halls, 0, BLOCK_MOST, writers));
     row("write, 7 addresses behind 8 blocks of 63", writing_times(&halls, 8 * BLOCK_MOST, 7, writers));
+}
+
+/// A payload length, each size as often as another.
+fn payload_length(random: &mut Random) -> u64 {
+    match random.below(3) {
+        0 => random.below(253),
+        1 => 253 + random.below(255),
+        _ => 508 + random.below(65_280),
+    }
+}
+
+/// The older NSA fields of addresses of any length, both sides' answers compared, then a row for each way.
+fn nsa_rows(random: &mut Random) {
+    let fields: Vec<[u64; 3]> = (0..INPUTS).map(|_| [payload_length(random), random.address(), random.address()]).collect();
+    let (mut out, mut out2, mut out3) = ([0; NSA_MOST], [0; NSA_MOST], [0; NSA_MOST]);
+    let mut packet = |fields: &[u64; 3]| {
+        let [length, source, destination] = *fields;
+        let count = nsa_write(*fields, &mut out).count;
+        assert_eq!(called_nsa_write(*fields, &mut out2).count, count);
+        assert_eq!(out[..count], out2[..count]);
+        let mut packet = out[..count].to_vec();
+        packet.resize(64, 0);
+        assert_eq!(nsa_read(&packet), Nsa { length, source, destination, place: count, refusal: 0 });
+        assert_eq!(nsa_read(&packet), simple::nsa_read(&packet));
+        packet
+    };
+    let packets: Vec<Vec<u8>> = fields.iter().map(&mut packet).collect();
+    row(
+        "NSA fields write",
+        times([
+            each!(fields, |f| nsa_write(*f, black_box(&mut out))),
+            each!(fields, |f| called_nsa_write(*f, black_box(&mut out2))),
+            each!(fields, |[l, s, d]| simple::nsa_write(*l, *s, *d, black_box(&mut out3))),
+        ]),
+    );
+    row(
+        "NSA fields read",
+        times([each!(packets, |p| nsa_read(p)), each!(packets, |p| called_nsa_read(p)), each!(packets, |p| simple::nsa_read(p))]),
+    );
 }
 
 /// Both sides' answers compared, then a row for each kind of child.
@@ -540,6 +597,9 @@ fn main() {
         "header read",
         times([each!(packets, |p| header_read(p)), each!(packets, |p| called_header_read(p)), each!(packets, |p| simple::header_read(p))]),
     );
+
+    // a seed of its own, so that the rows behind it keep their inputs
+    nsa_rows(&mut Random(3));
 
     let mut words = [0; 126];
     let mut words2 = [0; 126];

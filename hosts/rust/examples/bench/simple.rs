@@ -1,7 +1,7 @@
 //! The functions as one would write them in Rust by hand, on 64-bit numbers: straight from the rules, with the language's own means and
 //! without tricks.
 use pasa::sys::{
-    Block, Child, Hop, Limited, Listed, Node, Plan, Read, Record, Recovered, Written, DELIVERED, STOPPED, TO_CHILD, TO_PARENT,
+    Block, Child, Hop, Limited, Listed, Node, Nsa, Plan, Read, Record, Recovered, Written, DELIVERED, STOPPED, TO_CHILD, TO_PARENT,
 };
 use std::collections::HashSet;
 
@@ -168,6 +168,126 @@ pub fn header_read(packet: &[u8]) -> Read {
     }
     let address = octets.iter().fold(0, |number, octet| number << 8 | u64::from(*octet));
     Read { address, place: 3 + size, refusal: 0 }
+}
+
+/// The octets of an address in its shortest form: how many of them are the number's own, and how many there are together.
+fn address_size(address: u64) -> (usize, usize) {
+    match address {
+        0..=252 => (1, 1),
+        253..=0xFFFF => (2, 3),
+        0x1_0000..=0xFFFF_FFFF => (4, 5),
+        _ => {
+            let own = bit_length(address).div_ceil(8) as usize;
+            (own, 2 + own)
+        }
+    }
+}
+
+/// Writes it to octets that are just so many.
+fn put_address(address: u64, own: usize, out: &mut [u8]) {
+    let (front, rest) = out.split_at_mut(out.len() - own);
+    match front {
+        [] => (),
+        [mark] => *mark = if own == 2 { 253 } else { 254 },
+        [mark, length, ..] => (*mark, *length) = (255, own as u8),
+    }
+    rest.copy_from_slice(&address.to_be_bytes()[8 - own..]);
+}
+
+fn length_size(length: u64) -> usize {
+    match length {
+        0..=252 => 1,
+        253..=507 => 2,
+        _ => 3,
+    }
+}
+
+fn put_length(length: u64, out: &mut [u8]) {
+    match out {
+        [octet] => *octet = length as u8,
+        [mark, octet] => (*mark, *octet) = (253, (length - 252) as u8),
+        [mark, octets @ ..] => {
+            *mark = 254;
+            octets.copy_from_slice(&((length - 252) as u16).to_be_bytes());
+        }
+        [] => (),
+    }
+}
+
+#[inline]
+pub fn nsa_write(length: u64, source: u64, destination: u64, out: &mut [u8]) -> Written {
+    let refused = |refusal| Written { count: 0, refusal };
+    if length > 65_787 {
+        return refused(14);
+    }
+    if source == 0 || destination == 0 {
+        return refused(9);
+    }
+    let first = length_size(length);
+    let (own, second) = address_size(source);
+    let (own2, third) = address_size(destination);
+    let count = first + second + third;
+    let Some(out) = out.get_mut(..count) else {
+        return refused(10);
+    };
+    put_length(length, &mut out[..first]);
+    put_address(source, own, &mut out[first..first + second]);
+    put_address(destination, own2, &mut out[first + second..]);
+    Written { count, refusal: 0 }
+}
+
+/// The number in so many octets at the front of some, and the rest; or refusal 4.
+fn take_number(octets: &[u8], count: usize) -> Result<(u64, &[u8]), u8> {
+    let (own, rest) = octets.split_at_checked(count).ok_or(4)?;
+    Ok((own.iter().fold(0, |number, octet| number << 8 | u64::from(*octet)), rest))
+}
+
+fn take_length(octets: &[u8]) -> Result<(u64, &[u8]), u8> {
+    let (first, rest) = take_number(octets, 1)?;
+    let (count, least) = match first {
+        0..=252 => return Ok((first, rest)),
+        253 => (1, 1),
+        254 => (2, 256),
+        _ => return Err(6),
+    };
+    let (above, rest) = take_number(rest, count)?;
+    if above < least {
+        return Err(6);
+    }
+    Ok((252 + above, rest))
+}
+
+fn take_address(octets: &[u8]) -> Result<(u64, &[u8]), u8> {
+    let (first, rest) = take_number(octets, 1)?;
+    let (count, least, rest) = match first {
+        0 => return Err(9),
+        1..=252 => return Ok((first, rest)),
+        253 => (2, 253, rest),
+        254 => (4, 0x1_0000, rest),
+        _ => {
+            let (count, rest) = take_number(rest, 1)?;
+            if !(5..=8).contains(&count) {
+                return Err(6);
+            }
+            (count as usize, 1 << (8 * (count - 1)), rest)
+        }
+    };
+    let (address, rest) = take_number(rest, count)?;
+    if address < least {
+        return Err(6);
+    }
+    Ok((address, rest))
+}
+
+#[inline]
+pub fn nsa_read(octets: &[u8]) -> Nsa {
+    let read = || {
+        let (length, rest) = take_length(octets)?;
+        let (source, rest) = take_address(rest)?;
+        let (destination, rest) = take_address(rest)?;
+        Ok(Nsa { length, source, destination, place: octets.len() - rest.len(), refusal: 0 })
+    };
+    read().unwrap_or_else(|refusal| Nsa { length: 0, source: 0, destination: 0, place: 0, refusal })
 }
 
 fn depth(address: u64) -> u32 {
