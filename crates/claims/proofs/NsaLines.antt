@@ -1,14 +1,16 @@
 -- The lines of request Seven, each taken from the record that carries it. Assumes nothing.
 use Prim.Native.Nat.{ℕ, _+_, _^_, _≤_, _<_}
-use mathlib.Core.Path.{_≡_, refl, ap, _∙_}
+use mathlib.Core.Path.{_≡_, refl, sym, ap, _∙_, subst}
 use mathlib.Core.Logic.{_⊎_, inl, inr}
-use mathlib.Core.List.{List, [], _∷_}
+use mathlib.Core.List.{List, [], _∷_, _++_}
 use native.Mathlib.Omega.{arith}
 use borrow.Author.Tests.{lt-ltb}
 use lib.Dec.{lit<}
-use lib.ListN.{length, getD, replicate}
-use Rattle.octets.specs.Octets.{AreOctets, octets, value, joined, write}
-use Rattle.nsa.specs.Fields.{lengthField, longOctets, addressField, fields, writing, numberReading, lengthReading, countedReading, addressReading, sourceReading, destinationReading, fieldsAnswer, reading}
+use lib.ListN.{length, take, getD, replicate}
+use denote.Ref.{now}
+use Rattle.octets.specs.declared.Written.{Written}
+use Rattle.octets.specs.Octets.{AreOctets, octets, value, joined, WriteEffect, wrote, refuseWriting, write}
+use Rattle.nsa.specs.Fields.{lengthField, longOctets, addressField, fields, writing, numberReading, lengthReading, countedReading, addressReading, sourceReading, destinationReading, FieldsAnswer, found, fieldsAnswer, reading}
 use Rattle.nsa.specs.Forms.{LengthForm, lengthAlone, lengthOne, lengthTwo, AddressForm, addressAlone, addressTwo, addressFour, addressCounted}
 use Rattle.nsa.proofs.Writing.{lengthField-alone, lengthField-one, lengthField-two, addressField-alone, addressField-two, addressField-four, addressField-counted, longOctets-five, longOctets-six, longOctets-seven, longOctets-eight, writing-long}
 use Rattle.octets.proofs.Correspondence.{octets-one-to-one}
@@ -22,10 +24,12 @@ use Rattle.nsa.proofs.OneRule.{one-writer, one-reader}
 use Rattle.nsa.proofs.WrongWriters.{silent-fields-writer-refuted, refusing-fields-writer-refuted, roomless-fields-writer-refuted, spoiling-fields-writer-refuted, longer-fields-writer-refuted, unadded-fields-writer-refuted, zero-first-fields-writer-refuted, room-first-fields-writer-refuted, exchanging-fields-writer-refuted}
 use Rattle.nsa.proofs.WrongReaders.{longer-fields-reader-refuted, unadded-fields-reader-refuted, late-length-fields-reader-refuted, long-zeros-nine-reader-refuted, late-reserved-reader-refuted, last-field-reader-refuted, exchanging-fields-reader-refuted}
 use Rattle.nsa.proofs.Promises.{write-asks-nothing, write-promise, read-asks-nothing, read-promise, one-reading}
+use Rattle.pasa.specs.declared.bytes.PasaWritten.{PasaWritten}
+use Rattle.pasa.specs.declared.fields.PasaNsa.{PasaNsa}
 use Rattle.pasa.specs.Bytes.{pasaWritten}
 use Rattle.pasa.specs.Fields.{pasaNsa}
 use Rattle.pasa.proofs.FieldPromises.{nsa-write-asks-nothing, nsa-write-promise, nsa-read-asks-nothing, nsa-read-promise, written-asks-nothing, written-promise}
-use Rattle.claims.specs.Nsa.{OlderFields, ShortestForms, OlderRefusals, ThreeForms, OlderReadsBack, ValuesOfSeven, OlderCode, OlderOfAny, WrongOlder}
+use Rattle.claims.specs.Nsa.{OlderFields, ShortestForms, OlderRefusals, ThreeForms, OlderReadsBack, ValuesOfSeven, OlderCode, OlderInCode, OlderOfAny, WrongOlder}
 
 pub older-fields : OlderFields
 unfolding fields
@@ -141,7 +145,7 @@ older-reads-back = record {
 }
 
 pub values-of-seven : ValuesOfSeven
-unfolding writing write lengthField longOctets addressField fields octets reading lengthReading sourceReading destinationReading addressReading numberReading countedReading value joined
+unfolding writing write refuseWriting lengthField longOctets addressField fields octets reading lengthReading sourceReading destinationReading addressReading numberReading countedReading value joined
 values-of-seven = record {
   length0 = refl;
   length252 = refl;
@@ -182,6 +186,8 @@ values-of-seven = record {
   ff04 = refl;
   ff09 = refl;
   ffNoMore = refl;
+  fd00Cut = refl;
+  fe000100Cut = refl;
   ff0500Missing = refl;
   ff0500Whole = refl;
   feZeros = refl;
@@ -192,11 +198,14 @@ values-of-seven = record {
   destinationFd00fc = refl;
   destinationFf09 = refl;
   noDestination = refl;
+  lengthFirst = refl;
   sourceFirst = refl;
   aReading = λ behind. done-reads 253 252 256 (replicate 6 0) behind 6 (lit< tt) (lit< tt) refl;
   longReading = refl;
   exactRoom = refl;
   oneLess = refl;
+  sourceZero = refl;
+  zeroDestination = refl;
 }
 
 pub older-code : OlderCode
@@ -217,6 +226,44 @@ older-code = record {
   pasaWrittenTo = written-promise;
   writtenStruct = λ w. refl;
   nsaStruct = λ r. refl;
+}
+
+-- an answer without a refusal
+done-answer : (w : Written) → w .refusal ≡ 0 → w ≡ wrote (w .count)
+done-answer w e = λ i. record { refusal = e i; count = w .count }
+
+found-answer : (x : FieldsAnswer) → x .refusal ≡ 0 → x ≡ found (x .length) (x .source) (x .destination) (x .place)
+found-answer x e = λ i. record { refusal = e i; length = x .length; source = x .source; destination = x .destination; place = x .place }
+
+pub older-in-code : OlderInCode
+unfolding pasaWritten pasaNsa
+older-in-code = record {
+  readsBack = λ κs κs′ l s d out out′ p behind w r wrote z same read.
+      let (answer, buffer, sFits, dFits) = nsa-write-promise κs l s d out out′ w wrote in
+      let count = ap (λ (x : PasaWritten). x .count) answer in
+      let done = done-answer (writing l s d (now out) .answer) (sym (ap (λ (x : PasaWritten). x .refusal) answer) ∙ z) in
+      nsa-read-promise κs′ p r read .0
+      ∙ ap (λ (os : List ℕ). pasaNsa (reading os)) (same ∙ ap (λ (os : List ℕ). os ++ behind) buffer)
+      ∙ ap pasaNsa (done-reads l s d (now out) behind (writing l s d (now out) .answer .count) sFits dFits done)
+      ∙ ap (λ (k : ℕ). record { length = l; source = s; destination = d; place = k; refusal = 0 }) (sym count);
+  writesBack = λ κs κs′ p out out′ r w read z room wrote.
+      let (answer, all) = nsa-read-promise κs p r read in
+      let x = reading (now p) in
+      let found = found-answer x (sym (ap (λ (y : PasaNsa). y .refusal) answer) ∙ z) in
+      let k = ap (λ (y : PasaNsa). y .place) answer in
+      let (answered, taken) = fields-round-trip .writtenSo (now p) (x .length) (x .source) (x .destination) (x .place) all found .4 (now out)
+      (subst (λ (n : ℕ). n ≤ length (now out)) k room) in
+      let (written, buffer, sFits, dFits) = nsa-write-promise κs′ (r .length) (r .source) (r .destination) out out′ w wrote in
+      let three = ap (λ (y : PasaNsa). writing (y .length) (y .source) (y .destination) (now out)) answer in (
+        written
+            ∙ ap (λ (e : WriteEffect). pasaWritten (e .answer)) three
+            ∙ ap pasaWritten answered
+            ∙ ap (λ (n : ℕ). record { count = n; refusal = 0 }) (sym k),
+        ap (take (r .place)) (buffer ∙ ap (λ (e : WriteEffect). e .buffer) three)
+            ∙ ap (λ (n : ℕ). take n (writing (x .length) (x .source) (x .destination) (now out) .buffer)) k
+            ∙ taken
+            ∙ ap (λ (n : ℕ). take n (now p)) (sym k),
+      );
 }
 
 pub older-of-any : OlderOfAny

@@ -1,6 +1,6 @@
 -- Request Seven: the older fields of NSA, "three in a row: payload length, source, destination". What a field is and that it is the shortest form;
 -- demand 1 and demand 2 for the three together; values on the boundaries; what the code promises; and the wrong writers and readers. What is said with
--- other entries is not said again: which numbers are addresses (Addresses), what an order says (Demand1), octets and `wrote` (Demand2). The `length` of an
+-- other entries is not said again: which numbers are addresses (Addresses), what an order says (Demand1), which lists are octets, `wrote` (Demand2). The `length` of an
 -- answer is the payload's, as C has it; that of a list is how many octets it has.
 use Prim.Native.Nat.{ℕ, _+_, _-_, _*_, _^_, _≤_, _<_}
 use mathlib.Core.Path.{_≡_}
@@ -88,7 +88,7 @@ pub record ShortestForms : Type 0 where
   pub otherDestination : (l s : ℕ) (os behind : List ℕ) (a : ℕ) → l ≤ 65787 → IsAddress s → AddressForm os a → (os ≡ addressField a → ⊥)
       → reading (lengthField l ++ (addressField s ++ (os ++ behind))) ≡ refusedFields 6
 
--- ---- demand 1: `getD p i 0` is the i-th octet; where it is absent a 4 comes before
+-- ---- demand 1: `getD p i 0` is the i-th octet, counted from 0; where it is absent a 4 comes before
 
 -- "Within a field a missing octet is 4 and comes before any judgement of the value"; "255 is refused with 6"; "Only the shortest form is accepted:
 -- otherwise 6": after 253 a length to 252, after 254 one to 507
@@ -164,7 +164,8 @@ pub record OlderReadsBack : Type 0 where
   -- in every buffer that has room the fields are written, and nothing else: "the writer the number of octets written"
   pub written : (l s d : ℕ) (buffer : List ℕ) → l ≤ 65787 → IsAddress s → IsAddress d → length (fields l s d) ≤ length buffer
       → (writing l s d buffer .answer ≡ wrote (length (fields l s d))) × (writing l s d buffer .buffer ≡ fields l s d ++ drop (length (fields l s d)) buffer)
-  -- in every buffer, with anything behind it: wherever the writer is done, with k octets, what stands there reads as the three numbers with the place k
+  -- in every buffer, with anything behind it, of 64-bit numbers (OlderCode): wherever the writer is done, with k octets, what stands there reads as the
+  -- three numbers with the place k
   pub readsBack : (l s d : ℕ) (buffer behind : List ℕ) (k : ℕ) → s < 2 ^ 64 → d < 2 ^ 64 → writing l s d buffer .answer ≡ wrote k
       → reading (writing l s d buffer .buffer ++ behind) ≡ found l s d k
   -- and behind k the buffer is as it was
@@ -175,6 +176,7 @@ pub record OlderReadsBack : Type 0 where
   -- and up to the place the octets are what we write of them into any buffer that has room
   pub acceptsTheWritten : (p : List ℕ) (l s d k : ℕ) → AreOctets p → reading p ≡ found l s d k → (buffer : List ℕ) → k ≤ length buffer
       → (writing l s d buffer .answer ≡ wrote k) × (take k (writing l s d buffer .buffer) ≡ take k p)
+  -- whatever is accepted is "three in a row", and the answer "these and the place after them"
   pub acceptsSo : (p : List ℕ) → AreOctets p → reading p .refusal ≡ 0
       → ThreeForms p (reading p .length) (reading p .source) (reading p .destination) (reading p .place)
 
@@ -187,7 +189,7 @@ pub record ValuesOfSeven : Type 0 where
   pub length507 : lengthField 507 ≡ 0xFD ∷ 0xFF ∷ []
   pub length508 : lengthField 508 ≡ 0xFE ∷ 0x01 ∷ 0x00 ∷ []
   pub length65787 : lengthField 65787 ≡ 0xFE ∷ 0xFF ∷ 0xFF ∷ []
-  pub length65788 : (s d : ℕ) (buffer : List ℕ) → writing 65788 s d buffer ≡ refuseWriting 14 buffer
+  pub length65788 : (s d : ℕ) (buffer : List ℕ) → writing 65788 s d buffer ≡ record { answer = record { refusal = 14; count = 0 }; buffer = buffer }
   pub address1 : addressField 1 ≡ 0x01 ∷ []
   pub address252 : addressField 252 ≡ 0xFC ∷ []
   pub address253 : addressField 253 ≡ 0xFD ∷ 0x00 ∷ 0xFD ∷ []
@@ -202,12 +204,12 @@ pub record ValuesOfSeven : Type 0 where
   pub addressBelow56 : addressField (2 ^ 56 - 1) ≡ 0xFF ∷ 0x07 ∷ 0xFF ∷ 0xFF ∷ 0xFF ∷ 0xFF ∷ 0xFF ∷ 0xFF ∷ 0xFF ∷ []
   pub addressOf57 : addressField (2 ^ 56) ≡ 0xFF ∷ 0x08 ∷ 0x01 ∷ 0x00 ∷ 0x00 ∷ 0x00 ∷ 0x00 ∷ 0x00 ∷ 0x00 ∷ 0x00 ∷ []
   pub addressBelow64 : addressField (2 ^ 64 - 1) ≡ 0xFF ∷ 0x08 ∷ 0xFF ∷ 0xFF ∷ 0xFF ∷ 0xFF ∷ 0xFF ∷ 0xFF ∷ 0xFF ∷ 0xFF ∷ []
-  -- with octets that all differ
+  -- with address octets that all differ
   pub fourDiffer : addressField 0x01020304 ≡ 0xFE ∷ 0x01 ∷ 0x02 ∷ 0x03 ∷ 0x04 ∷ []
   pub fiveDiffer : addressField 0x0102030405 ≡ 0xFF ∷ 0x05 ∷ 0x01 ∷ 0x02 ∷ 0x03 ∷ 0x04 ∷ 0x05 ∷ []
   pub eightDiffer : addressField 0x0102030405060708 ≡ 0xFF ∷ 0x08 ∷ 0x01 ∷ 0x02 ∷ 0x03 ∷ 0x04 ∷ 0x05 ∷ 0x06 ∷ 0x07 ∷ 0x08 ∷ []
   pub the23 : length (fields 65787 (2 ^ 64 - 1) (2 ^ 64 - 1)) ≡ 23
-  -- payload lengths that are refused, with two addresses behind them
+  -- payload lengths that are refused, with two addresses behind them or cut
   pub fd00 : reading (0xFD ∷ 0x00 ∷ 0x01 ∷ 0x01 ∷ []) ≡ refusedFields 6
   pub fdCut : reading (0xFD ∷ []) ≡ refusedFields 4
   pub feCut : reading (0xFE ∷ 0x00 ∷ []) ≡ refusedFields 4
@@ -223,6 +225,8 @@ pub record ValuesOfSeven : Type 0 where
   pub ff04 : reading (0x00 ∷ 0xFF ∷ 0x04 ∷ []) ≡ refusedFields 6
   pub ff09 : reading (0x00 ∷ 0xFF ∷ 0x09 ∷ []) ≡ refusedFields 6
   pub ffNoMore : reading (0x00 ∷ 0xFF ∷ []) ≡ refusedFields 4
+  pub fd00Cut : reading (0x00 ∷ 0xFD ∷ 0x00 ∷ []) ≡ refusedFields 4
+  pub fe000100Cut : reading (0x00 ∷ 0xFE ∷ 0x00 ∷ 0x01 ∷ 0x00 ∷ []) ≡ refusedFields 4
   pub ff0500Missing : reading (0x00 ∷ 0xFF ∷ 0x05 ∷ 0x00 ∷ 0x01 ∷ 0x01 ∷ 0x01 ∷ []) ≡ refusedFields 4
   pub ff0500Whole : reading (0x00 ∷ 0xFF ∷ 0x05 ∷ 0x00 ∷ 0x01 ∷ 0x01 ∷ 0x01 ∷ 0x01 ∷ []) ≡ refusedFields 6
   pub feZeros : reading (0x00 ∷ 0xFE ∷ 0x00 ∷ 0x00 ∷ 0x00 ∷ 0x00 ∷ 0x01 ∷ []) ≡ refusedFields 6
@@ -235,16 +239,21 @@ pub record ValuesOfSeven : Type 0 where
   pub destinationFd00fc : reading (0x00 ∷ 0x01 ∷ 0xFD ∷ 0x00 ∷ 0xFC ∷ []) ≡ refusedFields 6
   pub destinationFf09 : reading (0x00 ∷ 0x01 ∷ 0xFF ∷ 0x09 ∷ []) ≡ refusedFields 6
   pub noDestination : reading (0x00 ∷ 0x01 ∷ []) ≡ refusedFields 4
-  -- the first faulty field decides: a source of zero, and no destination
+  -- the first faulty field decides: a longer form of a length, and a source of zero; a source of zero, and no destination
+  pub lengthFirst : reading (0xFD ∷ 0x00 ∷ 0x00 ∷ []) ≡ refusedFields 6
   pub sourceFirst : reading (0x00 ∷ 0x00 ∷ []) ≡ refusedFields 9
-  -- and what is read, whatever stands behind it
+  -- and what is read, whatever stands behind it, and with an octet behind it
   pub aReading : (behind : List ℕ) → reading (0xFD ∷ 0x01 ∷ 0xFC ∷ 0xFD ∷ 0x01 ∷ 0x00 ∷ behind) ≡ found 253 252 256 6
   pub longReading : reading (0xFE ∷ 0x01 ∷ 0x00 ∷ 0xFE ∷ 0x01 ∷ 0x02 ∷ 0x03 ∷ 0x04 ∷ 0xFF ∷ 0x05 ∷ 0x01 ∷ 0x02 ∷ 0x03 ∷ 0x04 ∷ 0x05 ∷ 0x99 ∷ [])
       ≡ found 508 0x01020304 0x0102030405 15
   -- exact room, and one octet less
   pub exactRoom : writing 253 252 253 (0 ∷ 0 ∷ 0 ∷ 0 ∷ 0 ∷ 0 ∷ [])
       ≡ record { answer = wrote 6; buffer = 0xFD ∷ 0x01 ∷ 0xFC ∷ 0xFD ∷ 0x00 ∷ 0xFD ∷ [] }
-  pub oneLess : writing 253 252 253 (0 ∷ 0 ∷ 0 ∷ 0 ∷ 0 ∷ []) ≡ refuseWriting 10 (0 ∷ 0 ∷ 0 ∷ 0 ∷ 0 ∷ [])
+  pub oneLess : writing 253 252 253 (0 ∷ 0 ∷ 0 ∷ 0 ∷ 0 ∷ [])
+      ≡ record { answer = record { refusal = 10; count = 0 }; buffer = 0 ∷ 0 ∷ 0 ∷ 0 ∷ 0 ∷ [] }
+  -- 9 before 10, of the source and of the destination
+  pub sourceZero : writing 0 0 1 [] .answer .refusal ≡ 9
+  pub zeroDestination : writing 0 1 0 [] .answer .refusal ≡ 9
 
 -- ---- what the code promises; the exports' structs beside it. `Asked` is what a caller must show, `Learnt` what it learns when the call ends; what is lent
 -- to be read alone has no other content then
@@ -258,14 +267,15 @@ pub record OlderCode : Type 0 where
   pub nsaWriteAsks : (κs : Lfts 1) (l : ℕ) (s d : Address) (out : Slice) → write-reads.Asked κs (l, (s, (d, (out, tt))))
   pub nsaWrite : (κs : Lfts 1) (l : ℕ) (s d : Address) (out out′ : Slice) (r : Written)
       → write-reads.Learnt κs (l, (s, (d, (out, tt)))) r (l, (s, (d, (out′, tt))))
-      → _≡_ {A = WriteEffect} record { answer = r; buffer = now out′ } (writing l (s .number) (d .number) (now out))
+      → (_≡_ {A = WriteEffect} record { answer = r; buffer = now out′ } (writing l (s .number) (d .number) (now out)))
+      × (s .number < 2 ^ 64) × (d .number < 2 ^ 64)
   pub nsaReadAsks : (κs : Lfts 1) (p : Slice) → read-reads.Asked κs (p, tt)
   pub nsaRead : (κs : Lfts 1) (p : Slice) (r : Reading) → read-reads.Learnt κs (p, tt) r (p, tt)
       → (fieldsAnswer r ≡ reading (now p)) × AreOctets (now p)
   pub pasaNsaWriteAsks : (κs : Lfts 1) (l s d : ℕ) (out : Slice) → nsa-write-reads.Asked κs (l, (s, (d, (out, tt))))
   pub pasaNsaWrite : (κs : Lfts 1) (l s d : ℕ) (out out′ : Slice) (r : PasaWritten)
       → nsa-write-reads.Learnt κs (l, (s, (d, (out, tt)))) r (l, (s, (d, (out′, tt))))
-      → (r ≡ pasaWritten (writing l s d (now out) .answer)) × (now out′ ≡ writing l s d (now out) .buffer)
+      → (r ≡ pasaWritten (writing l s d (now out) .answer)) × (now out′ ≡ writing l s d (now out) .buffer) × (s < 2 ^ 64) × (d < 2 ^ 64)
   pub pasaNsaReadAsks : (κs : Lfts 1) (p : Slice) → nsa-read-reads.Asked κs (p, tt)
   pub pasaNsaRead : (κs : Lfts 1) (p : Slice) (r : PasaNsa) → nsa-read-reads.Learnt κs (p, tt) r (p, tt)
       → (r ≡ pasaNsa (reading (now p))) × AreOctets (now p)
@@ -274,6 +284,19 @@ pub record OlderCode : Type 0 where
   pub writtenStruct : (w : Written) → pasaWritten w ≡ record { count = w .count; refusal = w .refusal }
   pub nsaStruct : (r : FieldsAnswer)
       → pasaNsa r ≡ record { length = r .length; source = r .source; destination = r .destination; place = r .place; refusal = r .refusal }
+
+-- the sentence at the exports: "Whatever is accepted is what we would write, and the reverse."
+pub record OlderInCode : Type 0 where
+  -- whatever `pasa_nsa_write` leaves in a buffer, done, `pasa_nsa_read` reads as what was handed in, with anything behind it
+  pub readsBack : (κs κs′ : Lfts 1) (l s d : ℕ) (out out′ p : Slice) (behind : List ℕ) (w : PasaWritten) (r : PasaNsa)
+      → nsa-write-reads.Learnt κs (l, (s, (d, (out, tt)))) w (l, (s, (d, (out′, tt)))) → w .refusal ≡ 0 → now p ≡ now out′ ++ behind
+      → nsa-read-reads.Learnt κs′ (p, tt) r (p, tt)
+      → r ≡ record { length = l; source = s; destination = d; place = w .count; refusal = 0 }
+  -- and whatever `pasa_nsa_read` accepts, `pasa_nsa_write` writes into a buffer that has room, octet for octet
+  pub writesBack : (κs κs′ : Lfts 1) (p out out′ : Slice) (r : PasaNsa) (w : PasaWritten)
+      → nsa-read-reads.Learnt κs (p, tt) r (p, tt) → r .refusal ≡ 0 → r .place ≤ length (now out)
+      → nsa-write-reads.Learnt κs′ (r .length, (r .source, (r .destination, (out, tt)))) w (r .length, (r .source, (r .destination, (out′, tt))))
+      → (w ≡ record { count = r .place; refusal = 0 }) × (take (r .place) (now out′) ≡ take (r .place) (now p))
 
 -- ---- wrong writers and readers
 

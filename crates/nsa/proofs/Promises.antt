@@ -2,7 +2,7 @@
 -- demands 1 and 2 are proved; and they ask nothing.
 use mathlib.Core.Path.{_≡_, sym, ap, ap₂, _∙_}
 use mathlib.Core.List.{List}
-use Prim.Native.Nat.{ℕ}
+use Prim.Native.Nat.{ℕ, _^_, _<_}
 use contract.Lifetimes.{Lfts}
 use denote.Ref.{RefT, now}
 use Rattle.octets.specs.Octets.{AreOctets}
@@ -23,8 +23,9 @@ write-asks-nothing κs payload source destination out = tt
 
 pub write-promise : (κs : Lfts 1) (payload : ℕ) (source destination : Address) (out last : Slice) (r : Written)
     → write-reads.Learnt κs (payload, (source, (destination, (out, tt)))) r (payload, (source, (destination, (last, tt))))
-    → record { answer = r; buffer = now last } ≡ writing payload (source .number) (destination .number) (now out)
-write-promise κs payload source destination out last r h = ap₂ (λ (w : Written) (b : List ℕ). record { answer = w; buffer = b }) (h .0) (h .1)
+    → (record { answer = r; buffer = now last } ≡ writing payload (source .number) (destination .number) (now out))
+    × (source .number < 2 ^ 64) × (destination .number < 2 ^ 64)
+write-promise κs payload source destination out last r h = (ap₂ (λ (w : Written) (b : List ℕ). record { answer = w; buffer = b }) (h .0) (h .1), h .2, h .3)
 
 pub read-asks-nothing : (κs : Lfts 1) (fields : Slice) → read-reads.Asked κs (fields, tt)
 read-asks-nothing κs fields = tt

@@ -1,5 +1,5 @@
--- "Only the shortest form is accepted: otherwise 6": whatever document 004 allows besides what we write is refused with 6, in each of the three
--- fields, whatever stands behind it. A statement of any reader.
+-- "Only the shortest form is accepted: otherwise 6": whatever form document 004 gives of a number besides the field that is written of it is refused
+-- with 6, in each of the three fields, whatever stands behind it. A statement of any reader.
 use mathlib.Core.Path.{_≡_}
 use mathlib.Core.List.{List, _++_}
 use Prim.Native.Nat.{ℕ, _≤_}

@@ -9,7 +9,8 @@ use Rattle.nsa.specs.Fields.{found, refusedFields, lengthReading, readin
 use Rattle.nsa.specs.RoundTrip.{FieldsReader}
 use Rattle.nsa.specs.Refusals.{addressEnd}
 
--- it takes a source in the two octets after 253 also where one would do, before a destination in one octet; right otherwise
+-- behind a payload length in one octet it takes a source in the two octets after 253 also where it would stand alone, before a destination in one
+-- octet; right otherwise
 unfoldable pub longerFieldsReader : FieldsReader
 longerFieldsReader p =
     if ltb (getD p 0 0) 253 && eqb (getD p 1 0) 253 && ltb 0 (value (take 2 (drop 2 p))) && ltb 0 (getD p 4 0) && ltb (getD p 4 0) 253
@@ -23,13 +24,13 @@ unaddedFieldsReader p =
     then found (reading p .length - 252) (reading p .source) (reading p .destination) (reading p .place)
     else reading p
 
--- it looks for a source's octets before it judges their number; right otherwise
+-- behind a payload length in one octet it looks for a source's octets before it judges their number; right otherwise
 unfoldable pub lateLengthFieldsReader : FieldsReader
 lateLengthFieldsReader p =
     if ltb (getD p 0 0) 253 && eqb (getD p 1 0) 255 && ltb (length p) (3 + getD p 2 0) then refusedFields 4
     else reading p
 
--- 9 also for a source of longer zeros; right otherwise
+-- behind a payload length in one octet it has 9 also for a source of zero in the two octets after 253; right otherwise
 unfoldable pub longZerosNineReader : FieldsReader
 longZerosNineReader p =
     if ltb (getD p 0 0) 253 && eqb (getD p 1 0) 253 && leb 4 (length p) && eqb (value (take 2 (drop 2 p))) 0 then refusedFields 9

@@ -4,12 +4,12 @@ use address::Address;
 use octets::Written;
 ghost use mathlib.Core.Path.{_≡_};
 ghost use mathlib.Core.List.{_∷_};
-ghost use Prim.Native.Nat.{_+_, _-_, _^_, _≤_};
+ghost use Prim.Native.Nat.{_+_, _-_, _^_, _≤_, _<_};
 ghost use lib.ListN.{length};
 ghost use Rattle.octets.specs.Octets.{octets, AreOctets};
 ghost use Rattle.nsa.specs.Fields.{lengthField, longOctets, addressField, writing, refusedField, numberReading, lengthReading, countedReading, addressReading, fieldsAnswer, reading};
 
-// Refusals: "a missing octet", "only the shortest form is accepted", "lent output too short", "a length to write above 65,787".
+// Refusals: "a missing octet", "Only the shortest form is accepted: otherwise 6", "lent output too short", "A length to write above 65,787".
 pub const ENDS_EARLY: u8 = 4;
 
 pub const NOT_SHORTEST: u8 = 6;
@@ -20,7 +20,7 @@ pub const TOO_LONG: u8 = 14;
 
 const LONGEST_PAYLOAD: u64 = 65_787;
 
-// A first octet below these is the number itself; each of these tells what follows it, but nothing may follow a payload length's third.
+// A first octet below these is the number itself; each of these tells what follows it; as a payload length the third is refused.
 const FIRST_MARK: u8 = 253;
 
 const SECOND_MARK: u8 = 254;
@@ -145,9 +145,10 @@ fn put_address(address: u64, out: &mut [u8])
     put_behind((end - 2) as u8, address, &mut out[1..end]);
 }
 
-// Writes the three fields to the front of the lent buffer.
+// Writes the three fields to the front of the lent buffer. That the addresses have at most 64 bits, which demand 2 asks, is promised beside the
+// answer.
 pub fn write(payload: u64, source: Address, destination: Address, out: &mut [u8]) -> Written
-    ensures { λ r. ⌜ (r ≡ writing payload (source .number) (destination .number) (now (out .entry)) .answer) × (now (out .exit) ≡ writing payload (source .number) (destination .number) (now (out .entry)) .buffer) ⌝ }
+    ensures { λ r. ⌜ (r ≡ writing payload (source .number) (destination .number) (now (out .entry)) .answer) × (now (out .exit) ≡ writing payload (source .number) (destination .number) (now (out .entry)) .buffer) × (source .number < 2 ^ 64) × (destination .number < 2 ^ 64) ⌝ }
 {
     if LONGEST_PAYLOAD < payload {
         return Written {

@@ -2,7 +2,7 @@
 -- shown in the exported structs; and they ask nothing.
 use mathlib.Core.Path.{_≡_}
 use mathlib.Core.List.{List}
-use Prim.Native.Nat.{ℕ}
+use Prim.Native.Nat.{ℕ, _^_, _<_}
 use contract.Lifetimes.{Lfts}
 use denote.Ref.{RefT, now}
 use Rattle.octets.specs.Octets.{AreOctets}
@@ -25,7 +25,7 @@ nsa-write-asks-nothing κs l s d out = tt
 
 pub nsa-write-promise : (κs : Lfts 1) (l s d : ℕ) (out last : Slice) (r : PasaWritten)
     → nsa-write-reads.Learnt κs (l, (s, (d, (out, tt)))) r (l, (s, (d, (last, tt))))
-    → (r ≡ pasaWritten (writing l s d (now out) .answer)) × (now last ≡ writing l s d (now out) .buffer)
+    → (r ≡ pasaWritten (writing l s d (now out) .answer)) × (now last ≡ writing l s d (now out) .buffer) × (s < 2 ^ 64) × (d < 2 ^ 64)
 nsa-write-promise κs l s d out last r h = h
 
 pub nsa-read-asks-nothing : (κs : Lfts 1) (fields : Slice) → nsa-read-reads.Asked κs (fields, tt)

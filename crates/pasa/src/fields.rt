@@ -3,6 +3,7 @@ use super::bytes::PasaWritten;
 use address::Address;
 use nsa::Reading;
 ghost use mathlib.Core.Path.{_≡_};
+ghost use Prim.Native.Nat.{_^_, _<_};
 ghost use Rattle.octets.specs.Octets.{AreOctets};
 ghost use Rattle.nsa.specs.Fields.{writing, reading};
 ghost use Rattle.pasa.specs.Bytes.{pasaWritten};
@@ -19,7 +20,8 @@ pub struct PasaNsa {
     pub refusal: u8,
 }
 
-// Writes a payload length, a source and a destination to the front of the lent buffer.
+// Writes a payload length, a source and a destination to the front of the lent buffer; that the addresses have at most 64 bits is promised beside the
+// answer.
 #[no_mangle]
 pub extern "C" fn pasa_nsa_write(
     length: u64,
@@ -27,7 +29,7 @@ pub extern "C" fn pasa_nsa_write(
     destination: u64,
     out: &mut [u8],
 ) -> PasaWritten
-    ensures { λ r. ⌜ (r ≡ pasaWritten (writing length source destination (now (out .entry)) .answer)) × (now (out .exit) ≡ writing length source destination (now (out .entry)) .buffer) ⌝ }
+    ensures { λ r. ⌜ (r ≡ pasaWritten (writing length source destination (now (out .entry)) .answer)) × (now (out .exit) ≡ writing length source destination (now (out .entry)) .buffer) × (source < 2 ^ 64) × (destination < 2 ^ 64) ⌝ }
 {
     super::bytes::pasa_written(nsa::write(
         length,

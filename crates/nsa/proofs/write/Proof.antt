@@ -1,7 +1,7 @@
 -- `nsa::write` meets its contract: each return is one case of `writing`; on success the three parts that are put are the fields. Assumes nothing.
 use mathlib.Core.Path.{_≡_, sym, ap, ap₂, _∙_}
 use mathlib.Core.List.{List}
-use Prim.Native.Nat.{ℕ, _+_, _-_, _≤_}
+use Prim.Native.Nat.{ℕ, _+_, _-_, _^_, _≤_, _<_}
 use native.Mathlib.Omega.{arith}
 use borrow.Rule.Slice.PartMut.{putMid}
 use lib.ListN.{length}
@@ -13,21 +13,21 @@ use Rattle.nsa.proofs.write.Statement.{statement}
 use Rattle.nsa.proofs.write.Tie as tie
 
 -- an answer and a buffer are those of a writing
-both : {w v : WriteEffect} → w ≡ v → (v .answer ≡ w .answer) × (v .buffer ≡ w .buffer)
-both e = (sym (ap (λ (x : WriteEffect). x .answer) e), sym (ap (λ (x : WriteEffect). x .buffer) e))
+both : {w v : WriteEffect} {s d : ℕ} → w ≡ v → s < 2 ^ 64 → d < 2 ^ 64 → (v .answer ≡ w .answer) × (v .buffer ≡ w .buffer) × (s < 2 ^ 64) × (d < 2 ^ 64)
+both e sFits dFits = (sym (ap (λ (x : WriteEffect). x .answer) e), sym (ap (λ (x : WriteEffect). x .buffer) e), sFits, dFits)
 
 returns : tie.Need-returns
 unfolding refuseWriting
 returns c =
     let at = c .before .before .args in
-    both (writing-long (at .payload) (at .source .number) (at .destination .number) (at .out .now) (c .if1 .taken))
+    both (writing-long (at .payload) (at .source .number) (at .destination .number) (at .out .now) (c .if1 .taken)) (omega arith) (omega arith)
 
 returns-2 : tie.Need-returns-2
 unfolding refuseWriting
 returns-2 c =
     let long = c .before .before in
     let at = long .before .before .args in
-    both (writing-zero-source (at .payload) (at .source .number) (at .destination .number) (at .out .now) (long .if1 .left) (c .if2 .taken))
+    both (writing-zero-source (at .payload) (at .source .number) (at .destination .number) (at .out .now) (long .if1 .left) (c .if2 .taken)) (omega arith) (omega arith)
 
 returns-3 : tie.Need-returns-3
 unfolding refuseWriting
@@ -35,7 +35,7 @@ returns-3 c =
     let source = c .before .before in
     let long = source .before .before in
     let at = long .before .before .args in
-    both (writing-zero-destination (at .payload) (at .source .number) (at .destination .number) (at .out .now) (long .if1 .left) (source .if2 .left) (c .if3 .taken))
+    both (writing-zero-destination (at .payload) (at .source .number) (at .destination .number) (at .out .now) (long .if1 .left) (source .if2 .left) (c .if3 .taken)) (omega arith) (omega arith)
 
 length-size-requires : tie.Need-length-size-requires
 length-size-requires c κs = search needs
@@ -78,7 +78,7 @@ returns-4 c =
     let at = long .before .before .args in
     both
     (writing-short (at .payload) (at .source .number) (at .destination .number) (at .out .now) (long .if1 .left) (source .if2 .left) (destination .if3 .left)
-    (omega (arith, whole size, c .if4 .taken)))
+    (omega (arith, whole size, c .if4 .taken))) (omega arith) (omega arith)
 
 sub-put-length : tie.Need-sub-put-length
 sub-put-length c = search needs
@@ -147,6 +147,8 @@ returns-5 c =
           ∙ put-three out (lengthField l) (addressField s) (addressField d) k m n
           (sym (size .before .before .length-size .ensures)) (sym (size .before .address-size .ensures)) (sym (size .address-size2 .ensures))
           ∙ sym (ap (λ (w : WriteEffect). w .buffer) done),
+      omega arith,
+      omega arith,
     )
 
 pub write-spec : {M : Type 1} → statement M

@@ -1,6 +1,7 @@
 -- `pasa_nsa_write` meets its contract, by those of the functions that it calls. Assumes nothing.
 use mathlib.Core.Path.{ap, ap₂, _∙_}
 use Prim.Native.Nat.{ℕ}
+use native.Mathlib.Omega.{arith}
 use Rattle.nsa.specs.Fields.{writing}
 use Rattle.pasa.specs.Bytes.{pasaWritten}
 use borrow.Author.Needs.{needs}
@@ -33,6 +34,8 @@ returns c =
           ∙ ap pasaWritten
           (written .write .ensures .0 ∙ ap₂ (λ (s d : ℕ). writing (at .length) s d buffer .answer) (source .of .ensures) (destination .of2 .ensures)),
       written .write .ensures .1 ∙ ap₂ (λ (s d : ℕ). writing (at .length) s d buffer .buffer) (source .of .ensures) (destination .of2 .ensures),
+      omega arith,
+      omega arith,
     )
 
 pub pasa-nsa-write-spec : {M : Type 1} → statement M
