@@ -22,7 +22,7 @@ use Rattle.nsa.proofs.ReadRefusals.{fields-read-refusals}
 use Rattle.nsa.proofs.Demand2.{wrote-fields, done-reads, done-spares, fields-round-trip}
 use Rattle.nsa.proofs.OneRule.{one-writer, one-reader}
 use Rattle.nsa.proofs.WrongWriters.{silent-fields-writer-refuted, refusing-fields-writer-refuted, roomless-fields-writer-refuted, spoiling-fields-writer-refuted, longer-fields-writer-refuted, unadded-fields-writer-refuted, zero-first-fields-writer-refuted, room-first-fields-writer-refuted, exchanging-fields-writer-refuted}
-use Rattle.nsa.proofs.WrongReaders.{longer-fields-reader-refuted, unadded-fields-reader-refuted, late-length-fields-reader-refuted, long-zeros-nine-reader-refuted, late-reserved-reader-refuted, last-field-reader-refuted, exchanging-fields-reader-refuted}
+use Rattle.nsa.proofs.WrongReaders.{longer-fields-reader-refuted, unadded-fields-reader-refuted, late-length-fields-reader-refuted, long-zeros-nine-fields-reader-refuted, late-reserved-fields-reader-refuted, destination-first-fields-reader-refuted, exchanging-fields-reader-refuted}
 use Rattle.nsa.proofs.Promises.{write-asks-nothing, write-promise, read-asks-nothing, read-promise, one-reading}
 use Rattle.pasa.specs.declared.bytes.PasaWritten.{PasaWritten}
 use Rattle.pasa.specs.declared.fields.PasaNsa.{PasaNsa}
@@ -302,7 +302,7 @@ wrong-older = record {
   writesExchanged = exchanging-fields-writer-refuted;
   readsExchanged = exchanging-fields-reader-refuted;
   withLengthLate = late-length-fields-reader-refuted;
-  withNineForLong = long-zeros-nine-reader-refuted;
-  withReservedLate = late-reserved-reader-refuted;
-  withLastField = last-field-reader-refuted;
+  withNineForLong = long-zeros-nine-fields-reader-refuted;
+  withReservedLate = late-reserved-fields-reader-refuted;
+  withDestinationFirst = destination-first-fields-reader-refuted;
 }

@@ -22,7 +22,7 @@ use Rattle.nsa.specs.Forms.{LengthForm, AddressForm}
 use Rattle.nsa.specs.RoundTrip.{FieldsWriter, FieldsReader, FieldsRoundTrip}
 use Rattle.nsa.specs.Refusals.{lengthEnd, addressEnd, behindLength, behindSource, FieldsWriteRefusals, FieldsReadRefusals}
 use Rattle.nsa.specs.WrongWriters.{silentFieldsWriter, refusingFieldsWriter, roomlessFieldsWriter, spoilingFieldsWriter, longerFieldsWriter, unaddedFieldsWriter, zeroFirstFieldsWriter, roomFirstFieldsWriter, exchangingFieldsWriter}
-use Rattle.nsa.specs.WrongReaders.{longerFieldsReader, unaddedFieldsReader, lateLengthFieldsReader, longZerosNineReader, lateReservedReader, lastFieldReader, exchangingFieldsReader}
+use Rattle.nsa.specs.WrongReaders.{longerFieldsReader, unaddedFieldsReader, lateLengthFieldsReader, longZerosNineFieldsReader, lateReservedFieldsReader, destinationFirstFieldsReader, exchangingFieldsReader}
 use Rattle.pasa.specs.declared.bytes.PasaWritten.{PasaWritten}
 use Rattle.pasa.specs.declared.fields.PasaNsa.{PasaNsa}
 use Rattle.pasa.specs.Bytes.{pasaWritten}
@@ -364,6 +364,6 @@ pub record WrongOlder : Type 0 where
   -- the length octet judged after its octets; 9 for longer zeros; an octet looked for behind a payload length's 255; a destination looked for before
   -- the source is judged
   pub withLengthLate : FieldsReadRefusals lateLengthFieldsReader → ⊥
-  pub withNineForLong : FieldsReadRefusals longZerosNineReader → ⊥
-  pub withReservedLate : FieldsReadRefusals lateReservedReader → ⊥
-  pub withLastField : FieldsReadRefusals lastFieldReader → ⊥
+  pub withNineForLong : FieldsReadRefusals longZerosNineFieldsReader → ⊥
+  pub withReservedLate : FieldsReadRefusals lateReservedFieldsReader → ⊥
+  pub withDestinationFirst : FieldsReadRefusals destinationFirstFieldsReader → ⊥

@@ -7,15 +7,15 @@ use native.Mathlib.Decide.{ℕ-discrete, decLt}
 use native.Mathlib.Nat.{lt-of-lt-of-le, pow-le-pow-right}
 use native.Mathlib.Omega.{arith}
 use lib.Dec.{lit<}
-use lib.ListN.{length, take, drop, length-append, length-drop}
-use lib.Seq.{take-at, take-add, drop-append-seam, length-take-le}
+use lib.ListN.{length, take, drop, length-drop}
+use lib.Seq.{take-add, length-take-le}
 use Rattle.address.specs.Bits.{longest}
 use Rattle.address.specs.Numbers.{IsAddress}
 use Rattle.octets.specs.Octets.{octets, value, AreOctets}
 use Rattle.octets.proofs.OctetLaws.{length-octets, value-octets-of-lt, octets-value, value-lt, take-octets, drop-octets}
 use Rattle.nsa.specs.Fields.{lengthField, longOctets, addressField, longestPayload, Field, field, refusedField, numberReading, lengthReading, countedReading, addressReading}
 use Rattle.nsa.proofs.Writing.{lengthField-alone, lengthField-one, lengthField-two, addressField-alone, addressField-two, addressField-four, addressField-counted, longOctets-five, longOctets-six, longOctets-seven, longOctets-eight, longOctets-bounds, length-behind, length-counted}
-use Rattle.nsa.proofs.Cases.{numberReading-missing, numberReading-low, numberReading-found, lengthReading-absent, lengthReading-alone, lengthReading-one, lengthReading-two, lengthReading-reserved, countedReading-absent, countedReading-few, countedReading-many, countedReading-right, addressReading-absent, addressReading-zero, addressReading-alone, addressReading-two, addressReading-four, addressReading-counted}
+use Rattle.nsa.proofs.Cases.{refusal, cut-out, numberReading-missing, numberReading-low, numberReading-found, lengthReading-absent, lengthReading-alone, lengthReading-one, lengthReading-two, lengthReading-reserved, countedReading-absent, countedReading-few, countedReading-many, countedReading-right, addressReading-absent, addressReading-zero, addressReading-alone, addressReading-two, addressReading-four, addressReading-counted}
 
 -- ---- how many octets a long address takes: the fewest
 
@@ -49,15 +49,11 @@ number-put : (front : List ℕ) (count least added m : ℕ) (rest : List ℕ) �
     → numberReading (length front) count least added (front ++ (octets count m ++ rest)) ≡ field (m + added) (length front + count)
 number-put front count least added m rest h l =
     let p = front ++ (octets count m ++ rest) in
-    let whole : length front + count ≤ length p =
-    omega (arith, length-append front (octets count m ++ rest), length-append (octets count m) rest, length-octets count m) in
-    let told : value (take count (drop (length front) p)) ≡ m =
-    ap (λ (os : List ℕ). value (take count os)) (drop-append-seam front (octets count m ++ rest))
-    ∙ ap value (take-at (octets count m) rest count (length-octets count m))
-    ∙ value-octets-of-lt count m h in
+    let (whole, cut) = cut-out front (octets count m) rest count (length-octets count m) in
+    let told : value (take count (drop (length front) p)) ≡ m = ap value cut ∙ value-octets-of-lt count m h in
     numberReading-found (length front) count least added p whole (omega arith) ∙ ap (λ (v : ℕ). field (v + added) (length front + count)) told
 
--- the field that a number reads as, and no more of what stands there
+-- what is written of a number reads as it, whatever stands behind
 abbrev Tells : (ℕ → List ℕ) → (List ℕ → Field) → ℕ → List ℕ → Type 0
 Tells form reading n rest = reading (form n ++ rest) ≡ field n (length (form n))
 
@@ -131,37 +127,39 @@ Right before count least added p =
     (before + count ≤ length p) × (least ≤ value (take count (drop before p)))
     × (numberReading before count least added p ≡ field (value (take count (drop before p)) + added) (before + count))
 
-pub number-right : (before count least added : ℕ) (p : List ℕ) → numberReading before count least added p .refusal ≡ 0 → Right before count least added p
+number-right : (before count least added : ℕ) (p : List ℕ) → numberReading before count least added p .refusal ≡ 0 → Right before count least added p
 number-right before count least added p z = go (decLt (length p) (before + count)) (decLt (value (take count (drop before p))) least)
   where
     go : Dec (length p < before + count) → Dec (value (take count (drop before p)) < least) → Right before count least added p
-    go (yes short) low = absurd (omega (arith, z, ap (λ (f : Field). f .refusal) (numberReading-missing before count least added p short)))
-    go (no long) (yes low) = absurd (omega (arith, z, ap (λ (f : Field). f .refusal) (numberReading-low before count least added p (omega arith) low)))
+    go (yes short) low = absurd (omega (arith, z, ap refusal (numberReading-missing before count least added p short)))
+    go (no long) (yes low) = absurd (omega (arith, z, ap refusal (numberReading-low before count least added p (omega arith) low)))
     go (no long) (no high) = (omega arith, omega arith, numberReading-found before count least added p (omega arith) (omega arith))
 
--- the octets that were read are those of their number, which they hold
+-- the number of some octets: below what so many hold, and with those for its own
+pub octets-held : (k : ℕ) (os : List ℕ) → AreOctets os → length os ≡ k → (value os < 256 ^ k) × (octets k (value os) ≡ os)
+octets-held k os are many =
+    (subst (λ (j : ℕ). value os < 256 ^ j) many (value-lt os are), ap (λ (j : ℕ). octets j (value os)) (sym many) ∙ octets-value os are)
+
 octets-read : (before count : ℕ) (p : List ℕ) → AreOctets p → before + count ≤ length p
     → (value (take count (drop before p)) < 256 ^ count) × (octets count (value (take count (drop before p))) ≡ take count (drop before p))
 octets-read before count p all h =
-    let os = take count (drop before p) in
-    let are = take-octets count (drop before p) (drop-octets before p all) in
-    let many : length os ≡ count = length-take-le count (drop before p) (omega (arith, length-drop before p)) in
-    (subst (λ (k : ℕ). value os < 256 ^ k) many (value-lt os are), ap (λ (k : ℕ). octets k (value os)) (sym many) ∙ octets-value os are)
+    octets-held count (take count (drop before p)) (take-octets count (drop before p) (drop-octets before p all))
+    (length-take-le count (drop before p) (omega (arith, length-drop before p)))
 
 -- the octets that a field takes are what is written of its number
-abbrev Written : (ℕ → List ℕ) → Field → List ℕ → Type 0
-Written form f p = (f .size ≤ length p) × (take (f .size) p ≡ form (f .number))
+abbrev AsWritten : (ℕ → List ℕ) → Field → List ℕ → Type 0
+AsWritten form f p = (f .size ≤ length p) × (take (f .size) p ≡ form (f .number))
 
 -- refused, which it was not
 refused-not : {f : Field} {A : Type 0} (n : ℕ) → f .refusal ≡ 0 → f ≡ refusedField (suc n) → A
-refused-not n z e = absurd (omega (arith, z, ap (λ (f : Field). f .refusal) e))
+refused-not n z e = absurd (omega (arith, z, ap refusal e))
 
 -- a mark and the octets behind it, where those are a number's
 marked : {f : List ℕ} (o mark count n : ℕ) (os : List ℕ) → o ≡ mark → f ≡ mark ∷ octets count n → octets count n ≡ take count os → o ∷ take count os ≡ f
 marked o mark count n os e form held = ap₂ (λ (x : ℕ) (l : List ℕ). x ∷ l) e (sym held) ∙ sym form
 
 pub length-read : (p : List ℕ) → AreOctets p → lengthReading p .refusal ≡ 0
-    → (lengthReading p .number ≤ longestPayload) × Written lengthField (lengthReading p) p
+    → (lengthReading p .number ≤ longestPayload) × AsWritten lengthField (lengthReading p) p
 length-read [] all z = refused-not 3 z (lengthReading-absent [] (omega arith))
 length-read (o ∷ os) all z = go (decLt o 253) (ℕ-discrete o 253) (ℕ-discrete o 254)
   where
@@ -169,13 +167,13 @@ length-read (o ∷ os) all z = go (decLt o 253) (ℕ-discrete o 253) (ℕ-discre
     p = o ∷ os
 
     Goal : Field → Type 0
-    Goal f = (f .number ≤ longestPayload) × Written lengthField f (o ∷ os)
+    Goal f = (f .number ≤ longestPayload) × AsWritten lengthField f (o ∷ os)
 
     go : Dec (o < 253) → Dec (o ≡ 253) → Dec (o ≡ 254) → Goal (lengthReading (o ∷ os))
     go (yes h) one two = subst Goal (sym (lengthReading-alone p (omega arith) h)) (omega arith, (omega arith, sym (lengthField-alone o h)))
     go (no h) (yes e) two =
         let r = lengthReading-one p (omega arith) e in
-        let (whole, least, found) = number-right 1 1 1 252 p (sym (ap (λ (f : Field). f .refusal) r) ∙ z) in
+        let (whole, least, found) = number-right 1 1 1 252 p (sym (ap refusal r) ∙ z) in
         let (less, held) = octets-read 1 1 p all whole in
         let v = value (take 1 os) in
         let back : v + 252 - 252 ≡ v = omega arith in
@@ -183,7 +181,7 @@ length-read (o ∷ os) all z = go (decLt o 253) (ℕ-discrete o 253) (ℕ-discre
         subst Goal (sym (r ∙ found)) (omega arith, (whole, marked o 253 1 v os e form held))
     go (no h) (no one) (yes e) =
         let r = lengthReading-two p (omega arith) e in
-        let (whole, least, found) = number-right 1 2 256 252 p (sym (ap (λ (f : Field). f .refusal) r) ∙ z) in
+        let (whole, least, found) = number-right 1 2 256 252 p (sym (ap refusal r) ∙ z) in
         let (less, held) = octets-read 1 2 p all whole in
         let v = value (take 2 os) in
         let back : v + 252 - 252 ≡ v = omega arith in
@@ -193,14 +191,14 @@ length-read (o ∷ os) all z = go (decLt o 253) (ℕ-discrete o 253) (ℕ-discre
 
 -- after 255: the length octet, and as many octets
 counted-read : (o k : ℕ) (os : List ℕ) → o ≡ 255 → AreOctets (o ∷ k ∷ os) → countedReading (o ∷ k ∷ os) .refusal ≡ 0
-    → IsAddress (countedReading (o ∷ k ∷ os) .number) × Written addressField (countedReading (o ∷ k ∷ os)) (o ∷ k ∷ os)
+    → IsAddress (countedReading (o ∷ k ∷ os) .number) × AsWritten addressField (countedReading (o ∷ k ∷ os)) (o ∷ k ∷ os)
 counted-read o k os e all z = go (decLt k 5) (decLt 8 k)
   where
     p : List ℕ
     p = o ∷ k ∷ os
 
     Goal : Field → Type 0
-    Goal f = IsAddress (f .number) × Written addressField f (o ∷ k ∷ os)
+    Goal f = IsAddress (f .number) × AsWritten addressField f (o ∷ k ∷ os)
 
     go : Dec (k < 5) → Dec (8 < k) → Goal (countedReading (o ∷ k ∷ os))
     go (yes few) many = refused-not 5 z (countedReading-few p (omega arith) few)
@@ -209,7 +207,7 @@ counted-read o k os e all z = go (decLt k 5) (decLt 8 k)
         let some : 5 ≤ k = omega arith in
         let most : k ≤ 8 = omega arith in
         let r = countedReading-right p (omega arith) some most in
-        let (whole, least, found) = number-right 2 k (2 ^ (8 * (k - 1))) 0 p (sym (ap (λ (f : Field). f .refusal) r) ∙ z) in
+        let (whole, least, found) = number-right 2 k (2 ^ (8 * (k - 1))) 0 p (sym (ap refusal r) ∙ z) in
         let (less, held) = octets-read 2 k p all whole in
         let v = value (take k os) in
         let (large, exact) = long-exact v k some most (least, less) in
@@ -221,7 +219,7 @@ counted-read o k os e all z = go (decLt k 5) (decLt 8 k)
         subst Goal (sym (r ∙ found ∙ ap (λ (n : ℕ). field n (2 + k)) same)) (record { some = omega arith; fits = fits }, (whole, taken))
 
 pub address-read : (p : List ℕ) → AreOctets p → addressReading p .refusal ≡ 0
-    → IsAddress (addressReading p .number) × Written addressField (addressReading p) p
+    → IsAddress (addressReading p .number) × AsWritten addressField (addressReading p) p
 address-read [] all z = refused-not 3 z (addressReading-absent [] (omega arith))
 address-read (o ∷ os) all z = go (ℕ-discrete o 0) (decLt o 253) (ℕ-discrete o 253) (ℕ-discrete o 254)
   where
@@ -229,13 +227,13 @@ address-read (o ∷ os) all z = go (ℕ-discrete o 0) (decLt o 253) (ℕ-discret
     p = o ∷ os
 
     Goal : Field → Type 0
-    Goal f = IsAddress (f .number) × Written addressField f (o ∷ os)
+    Goal f = IsAddress (f .number) × AsWritten addressField f (o ∷ os)
 
     same : (n : ℕ) → n + 0 ≡ n
     same n = omega arith
 
     behind : (os : List ℕ) → o ≡ 255 → AreOctets (o ∷ os) → countedReading (o ∷ os) .refusal ≡ 0
-        → IsAddress (countedReading (o ∷ os) .number) × Written addressField (countedReading (o ∷ os)) (o ∷ os)
+        → IsAddress (countedReading (o ∷ os) .number) × AsWritten addressField (countedReading (o ∷ os)) (o ∷ os)
     behind [] e all z = refused-not 3 z (countedReading-absent (o ∷ []) (omega arith))
     behind (k ∷ os) e all z = counted-read o k os e all z
 
@@ -246,18 +244,18 @@ address-read (o ∷ os) all z = go (ℕ-discrete o 0) (decLt o 253) (ℕ-discret
         (record { some = omega arith; fits = omega arith }, (omega arith, sym (addressField-alone o h)))
     go (no n) (no h) (yes e) four =
         let r = addressReading-two p (omega arith) e in
-        let (whole, least, found) = number-right 1 2 253 0 p (sym (ap (λ (f : Field). f .refusal) r) ∙ z) in
+        let (whole, least, found) = number-right 1 2 253 0 p (sym (ap refusal r) ∙ z) in
         let (less, held) = octets-read 1 2 p all whole in
         let v = value (take 2 os) in
         subst Goal (sym (r ∙ found ∙ ap (λ (n : ℕ). field n 3) (same v)))
         (record { some = omega arith; fits = omega arith }, (whole, marked o 253 2 v os e (addressField-two v least less) held))
     go (no n) (no h) (no two) (yes e) =
         let r = addressReading-four p (omega arith) e in
-        let (whole, least, found) = number-right 1 4 (256 ^ 2) 0 p (sym (ap (λ (f : Field). f .refusal) r) ∙ z) in
+        let (whole, least, found) = number-right 1 4 (256 ^ 2) 0 p (sym (ap refusal r) ∙ z) in
         let (less, held) = octets-read 1 4 p all whole in
         let v = value (take 4 os) in
         subst Goal (sym (r ∙ found ∙ ap (λ (n : ℕ). field n 5) (same v)))
         (record { some = omega arith; fits = omega arith }, (whole, marked o 254 4 v os e (addressField-four v least less) held))
     go (no n) (no h) (no two) (no four) =
         let r = addressReading-counted p (omega arith) (omega arith) in
-        subst Goal (sym r) (behind os (omega (arith, all .0)) all (sym (ap (λ (f : Field). f .refusal) r) ∙ z))
+        subst Goal (sym r) (behind os (omega (arith, all .0)) all (sym (ap refusal r) ∙ z))

@@ -1,14 +1,27 @@
 -- What reading a field answers, case by case. Assumes nothing.
-use mathlib.Core.Path.{_≡_}
-use mathlib.Core.List.{List}
+use mathlib.Core.Path.{_≡_, ap, _∙_}
+use mathlib.Core.List.{List, _++_}
 use Prim.Native.Nat.{ℕ, _+_, _*_, _-_, _^_, _≤_, _<_}
 use native.Mathlib.Omega.{arith}
 use borrow.Author.Tests.{eq-eqb, ne-eqb, lt-ltb, le-ltb}
-use lib.ListN.{length, take, drop, getD}
+use lib.ListN.{length, take, drop, getD, length-append}
+use lib.Seq.{take-at, drop-append-seam}
 use Rattle.octets.specs.Octets.{value}
-use Rattle.nsa.specs.Fields.{field, refusedField, numberReading, lengthReading, countedReading, addressReading}
+use Rattle.nsa.specs.Fields.{Field, field, refusedField, numberReading, lengthReading, countedReading, addressReading}
+
+-- a field's refusal
+abbrev pub refusal : Field → ℕ
+refusal f = f .refusal
 
 -- ---- the number behind the first octets
+
+-- some octets behind others, with more behind them, are there, and are what is cut out
+pub cut-out : (front os behind : List ℕ) (count : ℕ) → length os ≡ count
+    → (length front + count ≤ length (front ++ (os ++ behind))) × (take count (drop (length front) (front ++ (os ++ behind))) ≡ os)
+cut-out front os behind count many = (
+  omega (arith, length-append front (os ++ behind), length-append os behind),
+  ap (take count) (drop-append-seam front (os ++ behind)) ∙ take-at os behind count many,
+)
 
 module _ (before count least added : ℕ) (p : List ℕ) where
   pub numberReading-missing : length p < before + count → numberReading before count least added p ≡ refusedField 4
@@ -59,18 +72,18 @@ module _ (p : List ℕ) where
   unfolding countedReading
   countedReading-absent h = rw (lt-ltb (length p) 2 h)
 
-  module _ (told : 2 ≤ length p) where
+  module _ (both : 2 ≤ length p) where
     pub countedReading-few : getD p 1 0 < 5 → countedReading p ≡ refusedField 6
     unfolding countedReading
-    countedReading-few h = rw (le-ltb (length p) 2 told, lt-ltb (getD p 1 0) 5 h)
+    countedReading-few h = rw (le-ltb (length p) 2 both, lt-ltb (getD p 1 0) 5 h)
 
     pub countedReading-many : 8 < getD p 1 0 → countedReading p ≡ refusedField 6
     unfolding countedReading
-    countedReading-many h = let l : 5 ≤ getD p 1 0 = omega arith in rw (le-ltb (length p) 2 told, le-ltb (getD p 1 0) 5 l, lt-ltb 8 (getD p 1 0) h)
+    countedReading-many h = let l : 5 ≤ getD p 1 0 = omega arith in rw (le-ltb (length p) 2 both, le-ltb (getD p 1 0) 5 l, lt-ltb 8 (getD p 1 0) h)
 
     pub countedReading-right : 5 ≤ getD p 1 0 → getD p 1 0 ≤ 8 → countedReading p ≡ numberReading 2 (getD p 1 0) (2 ^ (8 * (getD p 1 0 - 1))) 0 p
     unfolding countedReading
-    countedReading-right l h = rw (le-ltb (length p) 2 told, le-ltb (getD p 1 0) 5 l, le-ltb 8 (getD p 1 0) h)
+    countedReading-right l h = rw (le-ltb (length p) 2 both, le-ltb (getD p 1 0) 5 l, le-ltb 8 (getD p 1 0) h)
 
   pub addressReading-absent : length p < 1 → addressReading p ≡ refusedField 4
   unfolding addressReading

@@ -46,7 +46,7 @@ module _ {l s d : ℕ} (short : l ≤ longestPayload) (source : IsAddress s) (de
   unfolding row
   row-destination = destination-behind (lengthField l) (addressField s) (addressField d ++ rest) row-length row-source ∙ address-put d rest destination
 
-  pub reading-fields : reading (fields l s d ++ rest) ≡ found l s d (length (fields l s d))
+  reading-fields : reading (fields l s d ++ rest) ≡ found l s d (length (fields l s d))
   reading-fields =
       let right : Field → ℕ = λ f. f .refusal in
       ap reading row-fields

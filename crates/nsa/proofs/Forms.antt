@@ -19,16 +19,39 @@ use Rattle.nsa.specs.Fields.{lengthField, longOctets, addressField, long
 use Rattle.nsa.specs.Forms.{LengthForm, lengthAlone, lengthOne, lengthTwo, AddressForm, addressAlone, addressTwo, addressFour, addressCounted, ShortestLengths, OursOrRefused, ShortestAddresses, AtMost23}
 use Rattle.nsa.specs.Refusals.{lengthEnd, addressEnd}
 use Rattle.nsa.proofs.Writing.{lengthField-alone, lengthField-one, lengthField-two, addressField-alone, addressField-two, addressField-four, addressField-counted, longOctets-five, longOctets-six, longOctets-seven, longOctets-eight, longOctets-bounds, length-behind, length-counted, length-lengthField, length-addressField, length-fields}
-use Rattle.nsa.proofs.BackAndForth.{long-in}
+use Rattle.nsa.proofs.BackAndForth.{octets-held, long-in}
 
 -- the octets that hold a number, and no more of it
 rest-octets : (k n : ℕ) → n < 256 ^ k → AreOctets (octets k n) × (length (octets k n) ≡ k) × (n ≡ value (octets k n))
 rest-octets k n h = (octets-octets k n, length-octets k n, sym (value-octets-of-lt k n h))
 
--- the number of some octets: below what so many hold, and with those for its own
-pub rest-number : (k : ℕ) (rest : List ℕ) → AreOctets rest → length rest ≡ k → (value rest < 256 ^ k) × (octets k (value rest) ≡ rest)
-rest-number k rest are many =
-    (subst (λ (j : ℕ). value rest < 256 ^ j) many (value-lt rest are), ap (λ (j : ℕ). octets j (value rest)) (sym many) ∙ octets-value rest are)
+-- fewer octets do not hold a number
+too-few : (a k j : ℕ) → a < 256 ^ k → 256 ^ j ≤ a → k ≤ j → ⊥
+too-few a k j h l f = omega (arith, pow-le-pow-right {n = 256} (lit< tt) f)
+
+-- a form behind a mark whose number is not too low for it is ours
+module _ {os rest : List ℕ} {n : ℕ} (are : AreOctets rest) where
+  pub one-ours : length rest ≡ 1 → os ≡ 253 ∷ rest → n ≡ value rest + 252 → 253 ≤ n → os ≡ lengthField n
+  one-ours many e number high =
+      let (less, held) = octets-held 1 rest are many in
+      let left : n - 252 ≡ value rest = omega arith in
+      e ∙ ap (λ (l : List ℕ). 253 ∷ l) (sym (ap (octets 1) left ∙ held)) ∙ sym (lengthField-one n high (omega arith))
+
+  pub two-ours : length rest ≡ 2 → os ≡ 254 ∷ rest → n ≡ value rest + 252 → 508 ≤ n → os ≡ lengthField n
+  two-ours many e number high =
+      let (less, held) = octets-held 2 rest are many in
+      let left : n - 252 ≡ value rest = omega arith in
+      e ∙ ap (λ (l : List ℕ). 254 ∷ l) (sym (ap (octets 2) left ∙ held)) ∙ sym (lengthField-two n high)
+
+  pub two-address-ours : length rest ≡ 2 → os ≡ 253 ∷ rest → n ≡ value rest → 253 ≤ n → os ≡ addressField n
+  two-address-ours many e number high =
+      let (less, held) = octets-held 2 rest are many in
+      e ∙ ap (λ (l : List ℕ). 253 ∷ l) (sym (ap (octets 2) number ∙ held)) ∙ sym (addressField-two n high (omega arith))
+
+  pub four-address-ours : length rest ≡ 4 → os ≡ 254 ∷ rest → n ≡ value rest → 256 ^ 2 ≤ n → os ≡ addressField n
+  four-address-ours many e number high =
+      let (less, held) = octets-held 4 rest are many in
+      e ∙ ap (λ (l : List ℕ). 254 ∷ l) (sym (ap (octets 4) number ∙ held)) ∙ sym (addressField-four n high (omega arith))
 
 -- ---- payload lengths
 
@@ -44,7 +67,7 @@ length-form n most = go (decLt n 253) (decLt n 508)
         let (are, many, number) = rest-octets 2 (n - 252) (omega arith) in
         lengthTwo (octets 2 (n - 252)) are many (lengthField-two n (omega arith)) (omega arith)
 
-pub length-shortest : (n : ℕ) (os : List ℕ) → LengthForm os n → (os ≡ lengthField n) ⊎ (length (lengthField n) < length os)
+length-shortest : (n : ℕ) (os : List ℕ) → LengthForm os n → (os ≡ lengthField n) ⊎ (length (lengthField n) < length os)
 length-shortest n os (lengthAlone h e) = inl (e ∙ sym (lengthField-alone n (omega arith)))
 length-shortest n os (lengthOne rest are many e number) = go (decLt n 253)
   where
@@ -53,10 +76,7 @@ length-shortest n os (lengthOne rest are many e number) = go (decLt n 253)
 
     go : Dec (n < 253) → (os ≡ lengthField n) ⊎ (length (lengthField n) < length os)
     go (yes h) = inr (omega (arith, ap length (lengthField-alone n h), long))
-    go (no h) =
-        let (less, held) = rest-number 1 rest are many in
-        let left : n - 252 ≡ value rest = omega arith in
-        inl (e ∙ ap (λ (l : List ℕ). 253 ∷ l) (sym (ap (octets 1) left ∙ held)) ∙ sym (lengthField-one n (omega arith) (omega arith)))
+    go (no h) = inl (one-ours are many e number (omega arith))
 length-shortest n os (lengthTwo rest are many e number) = go (decLt n 253) (decLt n 508)
   where
     long : length os ≡ 3
@@ -65,15 +85,12 @@ length-shortest n os (lengthTwo rest are many e number) = go (decLt n 253) (decL
     go : Dec (n < 253) → Dec (n < 508) → (os ≡ lengthField n) ⊎ (length (lengthField n) < length os)
     go (yes h) two = inr (omega (arith, ap length (lengthField-alone n h), long))
     go (no l) (yes h) = inr (omega (arith, length-behind 253 1 (n - 252) (lengthField-one n (omega arith) h), long))
-    go (no l) (no m) =
-        let (less, held) = rest-number 2 rest are many in
-        let left : n - 252 ≡ value rest = omega arith in
-        inl (e ∙ ap (λ (l : List ℕ). 254 ∷ l) (sym (ap (octets 2) left ∙ held)) ∙ sym (lengthField-two n (omega arith)))
+    go (no l) (no m) = inl (two-ours are many e number (omega arith))
 
 length-none-above : (n : ℕ) (os : List ℕ) → LengthForm os n → n ≤ longestPayload
 length-none-above n os (lengthAlone h e) = omega arith
-length-none-above n os (lengthOne rest are many e number) = omega (arith, rest-number 1 rest are many .0)
-length-none-above n os (lengthTwo rest are many e number) = omega (arith, rest-number 2 rest are many .0)
+length-none-above n os (lengthOne rest are many e number) = omega (arith, octets-held 1 rest are many .0)
+length-none-above n os (lengthTwo rest are many e number) = omega (arith, octets-held 2 rest are many .0)
 
 pub shortest-lengths : ShortestLengths
 shortest-lengths = record { aForm = length-form; shortest = length-shortest; noneAbove = length-none-above }
@@ -100,18 +117,14 @@ address-form a fits = go (decLt a 253) (decLt a (256 ^ 2)) (decLt a (256 ^ 4))
 long-least : (a k : ℕ) → a < 256 ^ k → 256 ^ 4 ≤ a → longOctets a ≤ k
 long-least a k h large = go (decLt a (256 ^ 5)) (decLt a (256 ^ 6)) (decLt a (256 ^ 7)) (decLe k 4) (decLe k 5) (decLe k 6) (decLe k 7)
   where
-    -- fewer octets would not hold it
-    more : (j : ℕ) → 256 ^ j ≤ a → k ≤ j → ⊥
-    more j l f = omega (arith, pow-le-pow-right {n = 256} (lit< tt) f)
-
     go : Dec (a < 256 ^ 5) → Dec (a < 256 ^ 6) → Dec (a < 256 ^ 7) → Dec (k ≤ 4) → Dec (k ≤ 5) → Dec (k ≤ 6) → Dec (k ≤ 7) → longOctets a ≤ k
-    go five six seven (yes f) five′ six′ seven′ = absurd (more 4 large f)
+    go five six seven (yes f) five′ six′ seven′ = absurd (too-few a k 4 h large f)
     go (yes five) six seven (no f) five′ six′ seven′ = omega (arith, longOctets-five a five)
-    go (no five) six seven (no f) (yes g) six′ seven′ = absurd (more 5 (omega arith) g)
+    go (no five) six seven (no f) (yes g) six′ seven′ = absurd (too-few a k 5 h (omega arith) g)
     go (no five) (yes six) seven (no f) (no g) six′ seven′ = omega (arith, longOctets-six a (omega arith) six)
-    go (no five) (no six) seven (no f) (no g) (yes i) seven′ = absurd (more 6 (omega arith) i)
+    go (no five) (no six) seven (no f) (no g) (yes i) seven′ = absurd (too-few a k 6 h (omega arith) i)
     go (no five) (no six) (yes seven) (no f) (no g) (no i) seven′ = omega (arith, longOctets-seven a (omega arith) seven)
-    go (no five) (no six) (no seven) (no f) (no g) (no i) (yes j) = absurd (more 7 (omega arith) j)
+    go (no five) (no six) (no seven) (no f) (no g) (no i) (yes j) = absurd (too-few a k 7 h (omega arith) j)
     go (no five) (no six) (no seven) (no f) (no g) (no i) (no j) = omega (arith, longOctets-eight a (omega arith))
 
 -- how long the field of a number is that two octets hold, and of one that four do
@@ -133,21 +146,18 @@ size-four a h = go (decLt a (256 ^ 2))
 size-counted : (a k : ℕ) → a < 256 ^ k → length (addressField a) ≤ 2 + k
 size-counted a k h = go (decLt a 253) (decLt a (256 ^ 2)) (decLt a (256 ^ 4)) (decLe k 0) (decLe k 2)
   where
-    more : (j : ℕ) → 256 ^ j ≤ a → k ≤ j → ⊥
-    more j l f = omega (arith, pow-le-pow-right {n = 256} (lit< tt) f)
-
     go : Dec (a < 253) → Dec (a < 256 ^ 2) → Dec (a < 256 ^ 4) → Dec (k ≤ 0) → Dec (k ≤ 2) → length (addressField a) ≤ 2 + k
     go (yes l) two four none few = omega (arith, ap length (addressField-alone a l))
-    go (no l) two four (yes f) few = absurd (more 0 (omega arith) f)
+    go (no l) two four (yes f) few = absurd (too-few a k 0 h (omega arith) f)
     go (no l) (yes two) four (no f) few = omega (arith, size-two a two)
-    go (no l) (no two) four (no f) (yes g) = absurd (more 2 (omega arith) g)
+    go (no l) (no two) four (no f) (yes g) = absurd (too-few a k 2 h (omega arith) g)
     go (no l) (no two) (yes four) (no f) (no g) = omega (arith, size-four a four)
     go (no l) (no two) (no four) (no f) (no g) = omega (arith, length-counted a (omega arith), long-least a k h (omega arith))
 
 address-shortest : (a : ℕ) (os : List ℕ) → AddressForm os a → length (addressField a) ≤ length os
 address-shortest a os (addressAlone h e) = omega (arith, ap length e, ap length (addressField-alone a (omega arith)))
-address-shortest a os (addressTwo rest are many e number) = omega (arith, ap length e, size-two a (omega (arith, rest-number 2 rest are many .0)))
-address-shortest a os (addressFour rest are many e number) = omega (arith, ap length e, size-four a (omega (arith, rest-number 4 rest are many .0)))
+address-shortest a os (addressTwo rest are many e number) = omega (arith, ap length e, size-two a (omega (arith, octets-held 2 rest are many .0)))
+address-shortest a os (addressFour rest are many e number) = omega (arith, ap length e, size-four a (omega (arith, octets-held 4 rest are many .0)))
 address-shortest a os (addressCounted rest are some e number) =
     omega (arith, ap length e, size-counted a (length rest) (subst (λ (n : ℕ). n < 256 ^ length rest) (sym number) (value-lt rest are)))
 
@@ -157,16 +167,12 @@ address-only a os (addressTwo rest are many e number) = go (decLt a 253)
   where
     go : Dec (a < 253) → OursOrRefused a os
     go (yes h) = inr (inl (omega (arith, ap length e, ap length (addressField-alone a h))))
-    go (no h) =
-        let (less, held) = rest-number 2 rest are many in
-        inl (e ∙ ap (λ (l : List ℕ). 253 ∷ l) (sym (ap (octets 2) number ∙ held)) ∙ sym (addressField-two a (omega arith) (omega arith)))
+    go (no h) = inl (two-address-ours are many e number (omega arith))
 address-only a os (addressFour rest are many e number) = go (decLt a (256 ^ 2))
   where
     go : Dec (a < 256 ^ 2) → OursOrRefused a os
     go (yes h) = inr (inl (omega (arith, ap length e, size-two a h)))
-    go (no h) =
-        let (less, held) = rest-number 4 rest are many in
-        inl (e ∙ ap (λ (l : List ℕ). 254 ∷ l) (sym (ap (octets 4) number ∙ held)) ∙ sym (addressField-four a (omega arith) (omega arith)))
+    go (no h) = inl (four-address-ours are many e number (omega arith))
 address-only a os (addressCounted rest are some e number) = go (decLt (length rest) 5) (decLt a (256 ^ 4)) (ℕ-discrete (longOctets a) (length rest))
   where
     long : length os ≡ 2 + length rest

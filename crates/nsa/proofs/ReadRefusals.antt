@@ -16,16 +16,13 @@ use Rattle.octets.specs.Octets.{AreOctets, value}
 use Rattle.octets.proofs.Correspondence.{value-zeros}
 use Rattle.octets.proofs.OctetLaws.{value-snoc, take-octets, drop-octets, value-lt-of-zeros, value-ge-of-zeros}
 use Rattle.nsa.specs.Fields.{lengthField, addressField, fields, Field, numberReading, lengthReading, countedReading, addressReading, FieldsAnswer, refusedFields, sourceReading, destinationReading, reading}
-use Rattle.nsa.specs.Refusals.{octetAt, told, lengthOrder, lengthEnd, fieldOrder, addressEnd, behindLength, behindSource, fieldsReadingOrder, AcceptedFields, FieldsReadRefusals}
+use Rattle.nsa.specs.Refusals.{octetAt, told, lengthFieldOrder, lengthEnd, addressFieldOrder, addressEnd, behindLength, behindSource, fieldsReadingOrder, AcceptedFields, FieldsReadRefusals}
 use Rattle.nsa.proofs.Writing.{length-fields}
-use Rattle.nsa.proofs.Cases.{numberReading-missing, numberReading-low, numberReading-found, lengthReading-absent, lengthReading-alone, lengthReading-one, lengthReading-two, lengthReading-reserved, countedReading-absent, countedReading-few, countedReading-many, countedReading-right, addressReading-absent, addressReading-zero, addressReading-alone, addressReading-two, addressReading-four, addressReading-counted}
+use Rattle.nsa.proofs.Cases.{refusal, numberReading-missing, numberReading-low, numberReading-found, lengthReading-absent, lengthReading-alone, lengthReading-one, lengthReading-two, lengthReading-reserved, countedReading-absent, countedReading-few, countedReading-many, countedReading-right, addressReading-absent, addressReading-zero, addressReading-alone, addressReading-two, addressReading-four, addressReading-counted}
 use Rattle.nsa.proofs.Row.{reading-length, reading-source, reading-destination, reading-found}
 use Rattle.nsa.proofs.BackAndForth.{length-read, address-read}
 use Rattle.nsa.proofs.Demand2.{fields-read}
 use Rattle.nsa.proofs.Forms.{length-form, address-form, length-form-end, address-form-end}
-
-abbrev refusal : Field → ℕ
-refusal f = f .refusal
 
 first-octet : (p : List ℕ) → AreOctets p → getD p 0 0 < 256
 first-octet [] all = omega arith
@@ -34,7 +31,7 @@ first-octet (o ∷ os) all = all .0
 -- ---- a payload length
 
 module _ (p : List ℕ) (all : AreOctets p) where
-  first-length : First (lengthOrder p) (lengthReading p .refusal)
+  first-length : First (lengthFieldOrder p) (lengthReading p .refusal)
   first-length =
       let o = octetAt 0 p in
       decided (decLe (length p) 0) (λ h. ap refusal (lengthReading-absent p (omega arith))) λ there.
@@ -128,7 +125,7 @@ module _ (p : List ℕ) (all : AreOctets p) where
   outside-refused long (inl few) = ap refusal (countedReading-few p long few)
   outside-refused long (inr many) = ap refusal (countedReading-many p long many)
 
-  first-address : First (fieldOrder p) (addressReading p .refusal)
+  first-address : First (addressFieldOrder p) (addressReading p .refusal)
   first-address =
       let o = octetAt 0 p in
       let k = octetAt 1 p in
@@ -229,10 +226,10 @@ module _ (p : List ℕ) (all : AreOctets p) where
   destination-octets : AreOctets (behindSource p)
   destination-octets = drop-octets (addressEnd (behindLength p)) (behindLength p) source-octets
 
-  numbered-length : Numbered (lengthOrder p)
+  numbered-length : Numbered (lengthFieldOrder p)
   numbered-length = (lit< tt, (lit< tt, (lit< tt, (lit< tt, (lit< tt, (lit< tt, tt))))))
 
-  numbered-address : (q : List ℕ) → Numbered (fieldOrder q)
+  numbered-address : (q : List ℕ) → Numbered (addressFieldOrder q)
   numbered-address q = (lit< tt, (lit< tt, (lit< tt, (lit< tt, (lit< tt, (lit< tt, (lit< tt, (lit< tt, (lit< tt, (lit< tt, tt))))))))))
 
   -- the refusal is that of the first field that has one
@@ -251,10 +248,10 @@ module _ (p : List ℕ) (all : AreOctets p) where
 
   first-reading : First (fieldsReadingOrder p) (reading p .refusal)
   first-reading =
-      first-then (lengthOrder p) (fieldOrder (behindLength p) then fieldOrder (behindSource p)) numbered-length (first-length p all)
+      first-then (lengthFieldOrder p) (addressFieldOrder (behindLength p) then addressFieldOrder (behindSource p)) numbered-length (first-length p all)
       (λ l.
       let e = ap refusal (behind-length l) in
-      first-then (fieldOrder (behindLength p)) (fieldOrder (behindSource p)) (numbered-address (behindLength p)) (first-address (behindLength p) source-octets)
+      first-then (addressFieldOrder (behindLength p)) (addressFieldOrder (behindSource p)) (numbered-address (behindLength p)) (first-address (behindLength p) source-octets)
       (λ s. first-address (behindSource p) destination-octets)
       (λ s. let right = e ∙ s in by-destination l right ∙ ap refusal (behind-source l right))
       (λ n. by-source l (λ z. n (sym e ∙ z)) ∙ e))

@@ -83,7 +83,7 @@ counted-within p = go (decLt (length p) 2) (decLt (getD p 1 0) 5) (decLt 8 (getD
         within p (countedReading-right p (omega arith) (omega arith) (omega arith))
         (number-within 2 (getD p 1 0) (2 ^ (8 * (getD p 1 0 - 1))) 0 p (omega arith) (omega arith))
 
-pub address-within : (p : List ℕ) → Within p (addressReading p)
+address-within : (p : List ℕ) → Within p (addressReading p)
 address-within [] = refused-within [] 3 (addressReading-absent [] (omega arith))
 address-within (o ∷ os) = go (ℕ-discrete o 0) (decLt o 253) (ℕ-discrete o 253) (ℕ-discrete o 254)
   where

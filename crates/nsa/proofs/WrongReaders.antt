@@ -13,7 +13,7 @@ use Rattle.octets.specs.Octets.{AreOctets, value, joined, octets, write}
 use Rattle.nsa.specs.Fields.{lengthField, addressField, fields, writing, FieldsAnswer, numberReading, lengthReading, countedReading, addressReading, sourceReading, destinationReading, reading}
 use Rattle.nsa.specs.RoundTrip.{FieldsRoundTrip}
 use Rattle.nsa.specs.Refusals.{FieldsReadRefusals}
-use Rattle.nsa.specs.WrongReaders.{longerFieldsReader, unaddedFieldsReader, lateLengthFieldsReader, longZerosNineReader, lateReservedReader, lastFieldReader, exchangingFieldsReader}
+use Rattle.nsa.specs.WrongReaders.{longerFieldsReader, unaddedFieldsReader, lateLengthFieldsReader, longZerosNineFieldsReader, lateReservedFieldsReader, destinationFirstFieldsReader, exchangingFieldsReader}
 use Rattle.nsa.proofs.OneRule.{one-reader}
 
 longer : List ℕ
@@ -36,18 +36,18 @@ unfolding lateLengthFieldsReader reading lengthReading sourceReading addressRead
 late-length-fields-reader-refuted claim =
     omega (arith, ap (λ (x : FieldsAnswer). x .refusal) (one-reader lateLengthFieldsReader claim (0x00 ∷ 0xFF ∷ 0x09 ∷ []) (lit< tt, (lit< tt, (lit< tt, tt)))))
 
-pub long-zeros-nine-reader-refuted : FieldsReadRefusals longZerosNineReader → ⊥
-unfolding longZerosNineReader reading lengthReading sourceReading addressReading numberReading value joined
-long-zeros-nine-reader-refuted claim =
-    omega (arith, ap (λ (x : FieldsAnswer). x .refusal) (one-reader longZerosNineReader claim (0x00 ∷ 0xFD ∷ 0x00 ∷ 0x00 ∷ []) (lit< tt, (lit< tt, (lit< tt, (lit< tt, tt))))))
+pub long-zeros-nine-fields-reader-refuted : FieldsReadRefusals longZerosNineFieldsReader → ⊥
+unfolding longZerosNineFieldsReader reading lengthReading sourceReading addressReading numberReading value joined
+long-zeros-nine-fields-reader-refuted claim =
+    omega (arith, ap (λ (x : FieldsAnswer). x .refusal) (one-reader longZerosNineFieldsReader claim (0x00 ∷ 0xFD ∷ 0x00 ∷ 0x00 ∷ []) (lit< tt, (lit< tt, (lit< tt, (lit< tt, tt))))))
 
-pub late-reserved-reader-refuted : FieldsReadRefusals lateReservedReader → ⊥
-unfolding lateReservedReader reading lengthReading
-late-reserved-reader-refuted claim = omega (arith, ap (λ (x : FieldsAnswer). x .refusal) (one-reader lateReservedReader claim (0xFF ∷ []) (lit< tt, tt)))
+pub late-reserved-fields-reader-refuted : FieldsReadRefusals lateReservedFieldsReader → ⊥
+unfolding lateReservedFieldsReader reading lengthReading
+late-reserved-fields-reader-refuted claim = omega (arith, ap (λ (x : FieldsAnswer). x .refusal) (one-reader lateReservedFieldsReader claim (0xFF ∷ []) (lit< tt, tt)))
 
-pub last-field-reader-refuted : FieldsReadRefusals lastFieldReader → ⊥
-unfolding lastFieldReader reading lengthReading sourceReading addressReading
-last-field-reader-refuted claim = omega (arith, ap (λ (x : FieldsAnswer). x .refusal) (one-reader lastFieldReader claim (0x00 ∷ 0x00 ∷ []) (lit< tt, (lit< tt, tt))))
+pub destination-first-fields-reader-refuted : FieldsReadRefusals destinationFirstFieldsReader → ⊥
+unfolding destinationFirstFieldsReader reading lengthReading sourceReading addressReading
+destination-first-fields-reader-refuted claim = omega (arith, ap (λ (x : FieldsAnswer). x .refusal) (one-reader destinationFirstFieldsReader claim (0x00 ∷ 0x00 ∷ []) (lit< tt, (lit< tt, tt))))
 
 pub exchanging-fields-reader-refuted : FieldsReadRefusals exchangingFieldsReader → ⊥
 unfolding exchangingFieldsReader reading lengthReading sourceReading destinationReading addressReading

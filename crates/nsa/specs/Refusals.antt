@@ -48,8 +48,8 @@ told i k p = value (take k (drop i p))
 
 -- a payload length at the front of some octets: "a missing octet is 4 and comes before any judgement of the value"; "Only the shortest form is
 -- accepted: otherwise 6"
-abbrev pub lengthOrder : List ℕ → Order
-lengthOrder p =
+abbrev pub lengthFieldOrder : List ℕ → Order
+lengthFieldOrder p =
     4 when Absent 0 p
     -- "255 is refused with 6"
     otherwise 6 when octetAt 0 p ≡ 255
@@ -68,8 +68,8 @@ lengthEnd p =
     else 3
 
 -- an address at the front of some octets
-abbrev pub fieldOrder : List ℕ → Order
-fieldOrder p =
+abbrev pub addressFieldOrder : List ℕ → Order
+addressFieldOrder p =
     4 when Absent 0 p
     -- "Address zero in one octet is 9"
     otherwise 9 when octetAt 0 p ≡ 0
@@ -104,7 +104,7 @@ behindSource p = drop (addressEnd (behindLength p)) (behindLength p)
 
 -- "The first faulty field decides."
 abbrev pub fieldsReadingOrder : List ℕ → Order
-fieldsReadingOrder p = lengthOrder p then (fieldOrder (behindLength p) then fieldOrder (behindSource p))
+fieldsReadingOrder p = lengthFieldOrder p then (addressFieldOrder (behindLength p) then addressFieldOrder (behindSource p))
 
 -- "three in a row: payload length, source, destination"; "The reader answers these and the place after them"
 pub record AcceptedFields (p : List ℕ) (l s d place : ℕ) : Type 0 where

@@ -31,18 +31,18 @@ lateLengthFieldsReader p =
     else reading p
 
 -- behind a payload length in one octet it has 9 also for a source of zero in the two octets after 253; right otherwise
-unfoldable pub longZerosNineReader : FieldsReader
-longZerosNineReader p =
+unfoldable pub longZerosNineFieldsReader : FieldsReader
+longZerosNineFieldsReader p =
     if ltb (getD p 0 0) 253 && eqb (getD p 1 0) 253 && leb 4 (length p) && eqb (value (take 2 (drop 2 p))) 0 then refusedFields 9
     else reading p
 
 -- it waits for an octet after a payload length's 255; right otherwise
-unfoldable pub lateReservedReader : FieldsReader
-lateReservedReader p = if eqb (length p) 1 && eqb (getD p 0 0) 255 then refusedFields 4 else reading p
+unfoldable pub lateReservedFieldsReader : FieldsReader
+lateReservedFieldsReader p = if eqb (length p) 1 && eqb (getD p 0 0) 255 then refusedFields 4 else reading p
 
 -- it looks for a destination before it judges the source: with nothing behind the source it answers 4, whatever the source is; right otherwise
-unfoldable pub lastFieldReader : FieldsReader
-lastFieldReader p =
+unfoldable pub destinationFirstFieldsReader : FieldsReader
+destinationFirstFieldsReader p =
     if eqb (lengthReading p .refusal) 0 && leb (length p) (lengthReading p .size + addressEnd (drop (lengthReading p .size) p)) then refusedFields 4
     else reading p
 

@@ -7,15 +7,13 @@ use lib.ListN.{drop}
 use Rattle.octets.specs.Octets.{AreOctets}
 use Rattle.octets.proofs.OctetLaws.{all-octets}
 use Rattle.nsa.specs.Fields.{Field, lengthReading, addressReading, sourceReading, destinationReading, found, fieldsAnswer}
+use Rattle.nsa.proofs.Cases.{refusal}
 use Rattle.nsa.proofs.Row.{reading-length, reading-source, reading-destination, reading-found, length-within, source-within, destination-within, part-behind}
 use borrow.Author.Needs.{needs}
 use Rattle.nsa.proofs.read.Statement.{statement}
 use Rattle.nsa.proofs.read.Tie as tie
 
 -- ---- what the three calls answered
-
-abbrev refusal : Field → ℕ
-refusal f = f .refusal
 
 abbrev size : Field → ℕ
 size f = f .size
