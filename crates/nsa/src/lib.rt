@@ -50,7 +50,7 @@ struct Field {
     size: usize,
 }
 
-// ---- writing
+// ---- writing: `payload` is the payload length here, since `length` is a list's in the contracts
 
 // How many octets a payload length takes.
 fn length_size(payload: u64) -> usize
