@@ -57,7 +57,7 @@ enum pasa_refusal {
     PASA_TOO_LONG = 3,        /* the child would be longer than 64 bits */
     PASA_ENDS_EARLY = 4,      /* the packet ends too early */
     PASA_WRONG_START = 5,     /* one of the first three octets is wrong */
-    PASA_WRONG_SIZE = 6,      /* a size above 8, a first octet of zero where there are several, or an NSA field that isn't in its shortest form */
+    PASA_WRONG_SIZE = 6,      /* a size above 8, a first octet of zero where there are several, or an NSA field that isn't the shortest form of a number */
     PASA_CHILD_NOT_GIVEN = 7, /* destination below this node, child not given */
     PASA_OTHER_PREFIX = 8,    /* IPv6 prefix differs */
     PASA_ZERO_ADDRESS = 9,    /* an address is zero */
@@ -289,7 +289,7 @@ static inline const char *pasa_refusal_text(uint8_t refusal)
     case PASA_WRONG_START:
         return "one of the first three octets is wrong";
     case PASA_WRONG_SIZE:
-        return "a size above 8, a first octet of zero where there are several, or an NSA field that isn't in its shortest form";
+        return "a size above 8, a first octet of zero where there are several, or an NSA field that isn't the shortest form of a number";
     case PASA_CHILD_NOT_GIVEN:
         return "destination below this node, child not given";
     case PASA_OTHER_PREFIX:

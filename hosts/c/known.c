@@ -155,7 +155,7 @@ static void refusal_texts(void)
     same_text("refusal 4", pasa_refusal_text(4), "the packet ends too early");
     same_text("refusal 5", pasa_refusal_text(5), "one of the first three octets is wrong");
     same_text("refusal 6", pasa_refusal_text(6),
-              "a size above 8, a first octet of zero where there are several, or an NSA field that isn't in its shortest form");
+              "a size above 8, a first octet of zero where there are several, or an NSA field that isn't the shortest form of a number");
     same_text("refusal 7", pasa_refusal_text(7), "destination below this node, child not given");
     same_text("refusal 8", pasa_refusal_text(8), "IPv6 prefix differs");
     same_text("refusal 9", pasa_refusal_text(9), "an address is zero");

@@ -74,7 +74,7 @@ pub use hop::Hop;
 pub use ipv6::{read_ipv6, write_ipv6, IPV6_PREFIX, IPV6_WHOLE};
 pub use journal::{crc, recover_journal, recovered_record, write_block, BLOCK_MOST, NODES, SLOT, SLOTS};
 pub use node::{Node, NO_CAP};
-pub use nsa::{read_nsa, write_nsa, NsaFields, NSA_MOST};
+pub use nsa::{read_nsa, write_nsa, NsaFields, NSA_LENGTH_MOST, NSA_MOST};
 pub use plan::{read_plan, PlanRefusal, PLAN_BYTES, PLAN_NODES};
 pub use refusal::Refusal;
 pub use route::{path, PATH_MOST};

@@ -8,13 +8,13 @@ pub const NSA_MOST: usize = 23;
 /// The fewest: one for each.
 const NSA_FEWEST: usize = 3;
 
-/// The longest payload length that the fields hold: what two octets give, and 252.
-const LENGTH_MOST: u64 = 65_787;
+/// The longest payload length that can be written: what two octets give, and 252.
+pub const NSA_LENGTH_MOST: u64 = 65_787;
 
 /// What the older NSA fields say of a packet, in the order in which they stand.
 #[derive(Clone, Copy, Debug, PartialEq, Eq, Hash)]
 pub struct NsaFields {
-    /// The payload length. NsaFields hold one of 0 to 65,787, and a larger one is refused with 14 when it is to be written.
+    /// The payload length, at most [`NSA_LENGTH_MOST`]: a larger one is refused with 14 when it is to be written.
     pub length: u64,
     /// Where the packet comes from.
     pub source: Address,
@@ -70,7 +70,7 @@ fn written(answer: sys::Written, room: usize) -> Result<usize, Refusal> {
 fn read(answer: sys::Nsa, octets: usize) -> Result<(NsaFields, usize), Refusal> {
     done(answer.refusal, || {
         assert!(is_end(answer.place, octets), "three fields in {octets} octets do not end at place {}", answer.place);
-        assert!(answer.length <= LENGTH_MOST, "no payload length of the fields is {}", answer.length);
+        assert!(answer.length <= NSA_LENGTH_MOST, "no payload length of the fields is {}", answer.length);
         let (source, destination) = (Address::answered(answer.source), Address::answered(answer.destination));
         (NsaFields { length: answer.length, source, destination }, answer.place)
     })
@@ -106,7 +106,7 @@ mod tests {
         for (octets, room) in [(0, 30), (2, 30), (24, 30), (4, 3), (usize::MAX, 30)] {
             assert!(std::panic::catch_unwind(|| count(octets, 0, room)).is_err(), "{octets} octets in {room}");
         }
-        let long = sys::Nsa { length: LENGTH_MOST + 1, source: 1, destination: 1, place: 5, refusal: 0 };
+        let long = sys::Nsa { length: NSA_LENGTH_MOST + 1, source: 1, destination: 1, place: 5, refusal: 0 };
         assert!(std::panic::catch_unwind(|| read(long, 30)).is_err(), "a payload length of 65,788");
         for (source, destination, place) in [(0, 1, 3), (1, 0, 3), (1, 1, 0), (1, 1, 2), (1, 1, 24), (1, 1, usize::MAX)] {
             assert!(std::panic::catch_unwind(|| fields(source, destination, place, 0)).is_err(), "{source} {destination} {place}");

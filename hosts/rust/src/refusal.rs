@@ -36,7 +36,10 @@ const TABLE: [(Refusal, &str); 16] = [
     (Refusal::TooLong, "the child would be longer than 64 bits"),
     (Refusal::EndsEarly, "the packet ends too early"),
     (Refusal::WrongStart, "one of the first three octets is wrong"),
-    (Refusal::WrongSize, "a size above 8, a first octet of zero where there are several, or an NSA field that isn't in its shortest form"),
+    (
+        Refusal::WrongSize,
+        "a size above 8, a first octet of zero where there are several, or an NSA field that isn't the shortest form of a number",
+    ),
     (Refusal::ChildNotGiven, "destination below this node, child not given"),
     (Refusal::OtherPrefix, "IPv6 prefix differs"),
     (Refusal::ZeroAddress, "an address is zero"),

@@ -84,7 +84,7 @@ const REFUSED_3: &str = "refused 3: the child would be longer than 64 bits";
 const REFUSED_4: &str = "refused 4: the packet ends too early";
 const REFUSED_5: &str = "refused 5: one of the first three octets is wrong";
 const REFUSED_6: &str =
-    "refused 6: a size above 8, a first octet of zero where there are several, or an NSA field that isn't in its shortest form";
+    "refused 6: a size above 8, a first octet of zero where there are several, or an NSA field that isn't the shortest form of a number";
 const REFUSED_7: &str = "refused 7: destination below this node, child not given";
 const REFUSED_8: &str = "refused 8: IPv6 prefix differs";
 const REFUSED_9: &str = "refused 9: an address is zero";

@@ -47,8 +47,11 @@ fn what_is_written_is_read() {
     for (length, source, destination) in [("0", "1", "10"), ("300", "11111111", "100000000"), ("65787", "1010101", "0x123456789a")] {
         let got = answer(&["nsa", "write", length, source, destination], "");
         let got = answer(&["nsa", "read", "-"], &got.stdout);
-        assert!(text(&got.stdout).starts_with(&format!("length      {length}\nsource      {source} (")), "{}", text(&got.stdout));
-        assert!(text(&got.stdout).ends_with("\nbehind      0 octets\n"), "{}", text(&got.stdout));
+        let read = text(&got.stdout);
+        assert!(read.starts_with(&format!("length      {length}\nsource      {source} (")), "{read}");
+        let shown = read.lines().find_map(|line| line.strip_prefix("destination ")).unwrap();
+        assert!(shown.starts_with(&format!("{destination} (")) || shown.ends_with(&format!(" ({destination})")), "{read}");
+        assert!(read.ends_with("\nbehind      0 octets\n"), "{read}");
     }
 }
 

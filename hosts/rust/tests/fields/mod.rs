@@ -378,7 +378,8 @@ fn nsa_refusals_by_hand() {
     }
 }
 
-/// "Only the shortest form is accepted: otherwise 6, so after 255 the length is 5 to 8 and its first octet isn't zero."
+/// "Only the shortest form is accepted: otherwise 6, so after 255 the length is 5 to 8 and its first octet isn't zero.": of the independent writer, which
+/// lists the forms and takes the first of the shortest, and with which the archive is compared above.
 #[test]
 fn what_follows_from_the_shortest_form() {
     let mut lengths = BTreeSet::new();

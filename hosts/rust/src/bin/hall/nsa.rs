@@ -34,7 +34,7 @@ behind them. Each field is written in its shortest form, and no other is read.
     place       5
     behind      2 octets
     $ hall nsa read 02 fd 00 3e 2b 68 69
-    refused 6: a size above 8, a first octet of zero where there are several, or an NSA field that isn't in its shortest form
+    refused 6: a size above 8, a first octet of zero where there are several, or an NSA field that isn't the shortest form of a number
 ",
     run,
 };
