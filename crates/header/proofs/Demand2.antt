@@ -1,28 +1,28 @@
--- Demand 2 for the header. A header reads as its address, since its size is allowed, its octets give the number and the fewest octets leave
--- no zero in front (`reading-header`); and octets that are read were checked octet by octet for what a header has (`header-read`). Assumes
--- nothing.
+-- Demand 2 for the header. A header with a payload reads as its address, since its size is allowed, its octets give the number and the fewest octets
+-- leave no zero in front (`reading-header`), and alone it is 16 (`reading-alone`); and octets that are read, or are 16, were checked octet by octet
+-- for what a header has (`header-read`, `alone-read`). Assumes nothing.
 use mathlib.Core.Path.{_≡_, refl, sym, ap, ap₂, _∙_, subst}
-use mathlib.Core.List.{List, _∷_, _++_, append-assoc}
-use mathlib.Core.Logic.{inl, inr}
+use mathlib.Core.List.{List, [], _∷_, _++_, append-assoc, append-nil}
+use mathlib.Core.Logic.{_↔_, inl, inr}
 use Prim.Native.Nat.{ℕ, _+_, _-_, _*_, _/_, _%_, _^_, _≤_, _<_}
 use native.Mathlib.Nat.{lt-of-lt-of-le, one-le-pow, pos-of-ne-zero}
 use native.Mathlib.Omega.{arith}
 use borrow.Author.Tests.{eq-eqb, le-ltb}
 use lib.Dec.{lit<}
-use lib.ListN.{length, take, drop, getD, length-append, length-drop}
-use lib.Seq.{take-at, take-add, drop-at}
+use lib.ListN.{length, take, drop, getD, take-append-drop, length-append, length-drop, drop-of-length-le}
+use lib.Seq.{take-all, take-at, take-add, drop-at}
 use Rattle.octets.specs.declared.Written.{Written}
 use Rattle.address.specs.Order.{First}
 use Rattle.address.specs.Bits.{longest}
 use Rattle.address.specs.Numbers.{IsAddress}
 use Rattle.octets.specs.Octets.{octets, value, AreOctets, WriteEffect, write, wrote}
 use Rattle.octets.proofs.OctetLaws.{length-octets, value-octets-of-lt, octets-octets, octets-value, value-lt, value-fits}
-use Rattle.header.specs.Header.{header, place, size, fixedOctets, pageOctet, criticalPattern, routingType, mostOctets, writing, reading, found, startFault, inOrder, sizeTold, addressFault, zeroFault, addressOctets}
+use Rattle.header.specs.Header.{header, place, size, fixedOctets, pageOctet, criticalPattern, routingType, mostOctets, writing, HeaderAnswer, reading, found, refusedHeader, startFault, inOrder, sizeTold, addressFault, zeroFault, addressOctets}
 use Rattle.header.specs.RoundTrip.{HeaderRoundTrip}
 use Rattle.header.proofs.Size.{size-le, size-ge, size-exact, size-least, fewest-octets}
 use Rattle.header.proofs.Start.{startFault-zero}
 use Rattle.header.proofs.Parts.{length-addressOctets, octets-addressOctets, first-addressOctets, lt-of-first, ge-of-first, zeroFault-some, zeroFault-zero, addressFault-zero}
-use Rattle.header.proofs.Cases.{reading-found, reading-inverse}
+use Rattle.header.proofs.Cases.{reading-empty, reading-found, reading-inverse, reading-sixteen}
 use Rattle.header.specs.Refusals.{writingOrder}
 use Rattle.header.proofs.RefusalLaws.{header-write-refusals}
 use Rattle.header.proofs.Writing.{length-header, writing-done}
@@ -67,14 +67,27 @@ module _ {a : ℕ} (n : IsAddress a) (rest : List ℕ) where
       rw (le-ltb mostOctets (size a) (size-le (n .fits)), le-ltb (length (header a ++ rest)) (fixedOctets + size a) long)
       (zeroFault-some (size a) (getD (header a ++ rest) fixedOctets 0) header-first)
 
-  pub reading-header : reading (header a ++ rest) ≡ found a (place a)
+  -- no check of the octets finds a fault
+  header-whole : addressFault (sizeTold (header a ++ rest)) (header a ++ rest) ≡ 0
+  header-whole = ap (λ (s : ℕ). addressFault s (header a ++ rest)) header-size ∙ header-fault
+
+  header-end : length (header a ++ rest) ≡ fixedOctets + sizeTold (header a ++ rest) + length rest
   unfolding place
-  reading-header =
+  header-end = omega (arith, length-append (header a) rest, length-header a, header-size)
+
+  pub reading-header : 0 < length rest → reading (header a ++ rest) ≡ found a (place a)
+  unfolding place
+  reading-header some =
       let p = header a ++ rest in
-      reading-found p header-start (ap (λ (s : ℕ). addressFault s p) header-size ∙ header-fault)
+      reading-found p header-start header-whole (omega (arith, header-end))
       ∙ ap (λ (s : ℕ). found (value (addressOctets s p)) (fixedOctets + s)) header-size
       ∙ ap (λ (os : List ℕ). found (value os) (fixedOctets + size a)) header-octets
       ∙ ap (λ (v : ℕ). found v (fixedOctets + size a)) header-number
+
+pub reading-alone : {a : ℕ} → IsAddress a → reading (header a) ≡ refusedHeader 16
+reading-alone {a} n =
+    ap reading (sym (append-nil (header a)))
+    ∙ reading-empty (header a ++ []) (header-start n []) (header-whole n []) (omega (arith, header-end n []))
 
 -- ---- what is read is what would have been written
 
@@ -128,18 +141,50 @@ module _ (p : List ℕ) (all : AreOctets p) (begun : startFault p ≡ 0) (whole 
       ∙ ap₂ (λ (x : ℕ) (l : List ℕ). pageOctet ∷ x ∷ routingType ∷ l) second (sym (octets-value os are) ∙ ap (λ (k : ℕ). octets k (value os)) many)
       ∙ ap (λ (k : ℕ). pageOctet ∷ (criticalPattern * 32 + (k - 1)) ∷ routingType ∷ octets k (value os)) (sym size-read)
 
-  as-read : (a k : ℕ) → value os ≡ a → fixedOctets + s ≡ k → IsAddress a × (k ≤ length p) × (k ≡ place a) × (take k p ≡ header a)
+  as-read : (a k : ℕ) → value os ≡ a → fixedOctets + s ≡ k → IsAddress a × (k ≡ place a) × (take k p ≡ header a)
   unfolding place
   as-read a k e f = (
     subst IsAddress e address-read,
-    subst (λ (n : ℕ). n ≤ length p) f (right .1),
     sym f ∙ ap (λ (n : ℕ). fixedOctets + n) (sym size-read ∙ ap size e),
     ap (λ (n : ℕ). take n p) (sym f) ∙ take-read ∙ ap header e,
   )
 
-pub header-read : (p : List ℕ) (a k : ℕ) → AreOctets p → reading p ≡ found a k → IsAddress a × (k ≤ length p) × (k ≡ place a) × (take k p ≡ header a)
+-- octets in which no check finds a fault, whatever is behind them
+pub octets-read : (p : List ℕ) (a k : ℕ) → AreOctets p → startFault p ≡ 0 → addressFault (sizeTold p) p ≡ 0
+    → value (addressOctets (sizeTold p) p) ≡ a → fixedOctets + sizeTold p ≡ k → IsAddress a × (k ≡ place a) × (take k p ≡ header a)
 unfolding os s
-header-read p a k all e = let (begun, whole, number, end) = reading-inverse p a k e in as-read p all begun whole a k number end
+octets-read p a k all begun whole number end = as-read p all begun whole a k number end
+
+pub header-read : (p : List ℕ) (a k : ℕ) → AreOctets p → reading p ≡ found a k → IsAddress a × (k < length p) × (k ≡ place a) × (take k p ≡ header a)
+header-read p a k all e =
+    let (begun, whole, some, number, end) = reading-inverse p a k e in
+    let (address, place-read, same) = octets-read p a k all begun whole number end in
+    (address, omega arith, place-read, same)
+
+pub alone-read : (p : List ℕ) → AreOctets p → reading p .refusal ≡ 16 → (a : ℕ) × IsAddress a × (p ≡ header a)
+unfolding os s
+alone-read p all e =
+    let (begun, whole, short) = reading-sixteen p e in
+    let a = value (os p all begun whole) in
+    (a, address-read p all begun whole, sym (take-all (fixedOctets + sizeTold p) p short) ∙ take-read p all begun whole)
+
+-- 16 is the answer to a header and no more, and nothing else
+pub sixteen-exactly : (p : List ℕ) → AreOctets p → (reading p .refusal ≡ 16) ↔ ((a : ℕ) × IsAddress a × (p ≡ header a))
+sixteen-exactly p all = (
+  alone-read p all,
+  λ (a, n, same). ap (λ (q : List ℕ). reading q .refusal) same ∙ ap (λ (x : HeaderAnswer). x .refusal) (reading-alone n),
+)
+
+-- what is found is a header with a payload behind it, and nothing else
+pub found-exactly : (p : List ℕ) (a k : ℕ) → AreOctets p
+    → (reading p ≡ found a k) ↔ (IsAddress a × (k ≡ place a) × ((payload : List ℕ) × (0 < length payload) × (p ≡ header a ++ payload)))
+found-exactly p a k all = (
+  λ e.
+      let (n, short, end, same) = header-read p a k all e in
+      let laid : p ≡ header a ++ drop k p = sym (take-append-drop k p) ∙ ap (λ (l : List ℕ). l ++ drop k p) same in
+      (n, end, (drop k p, omega (arith, length-drop k p), laid)),
+  λ (n, end, (payload, some, laid)). ap reading laid ∙ reading-header n payload some ∙ ap (found a) (sym end),
+)
 
 -- ---- demand 2
 
@@ -166,11 +211,11 @@ writing-room a buffer z = go (header-write-refusals .given a buffer 0 .0 z)
     go (inr (some, inr (room, f))) = (pos-of-ne-zero some, omega (arith, length-header a))
 
 -- wherever a number was written, it reads back, and what stood behind it still does
-where-done : (a : ℕ) (buffer payload : List ℕ) (n : ℕ) → a < 2 ^ longest → writing a buffer .answer ≡ wrote n
+where-done : (a : ℕ) (buffer payload : List ℕ) (n : ℕ) → a < 2 ^ longest → 0 < length payload → writing a buffer .answer ≡ wrote n
     → (reading (writing a buffer .buffer ++ payload) ≡ found a n)
     × (drop n (writing a buffer .buffer) ≡ drop n buffer)
     × (length (writing a buffer .buffer) ≡ length buffer)
-where-done a buffer payload n fits e =
+where-done a buffer payload n fits behind e =
     let (some, room) = writing-room a buffer (ap (λ (w : Written). w .refusal) e) in
     let address : IsAddress a = record { some = some; fits = fits } in
     let (answered, left) = wrote-header a buffer address room in
@@ -178,17 +223,50 @@ where-done a buffer payload n fits e =
     let rest = drop (place a) buffer in (
       ap (λ (l : List ℕ). reading (l ++ payload)) left
           ∙ ap reading (append-assoc (header a) rest payload)
-          ∙ reading-header address (rest ++ payload)
+          ∙ reading-header address (rest ++ payload) (omega (arith, length-append rest payload))
           ∙ ap (found a) (sym end),
       ap (drop n) left ∙ drop-at (header a) rest n (length-header a ∙ sym end) ∙ ap (λ (k : ℕ). drop k buffer) (sym end),
       ap length left ∙ omega (arith, length-append (header a) rest, length-header a, length-drop (place a) buffer),
     )
 
+-- into a buffer of the header's length the header is written, and no more
+wrote-alone : (a : ℕ) (buffer : List ℕ) → IsAddress a → length buffer ≡ place a
+    → (writing a buffer .answer ≡ wrote (place a)) × (writing a buffer .buffer ≡ header a)
+wrote-alone a buffer n e =
+    let (answered, left) = wrote-header a buffer n (omega arith) in
+    (answered, left ∙ ap (λ (l : List ℕ). header a ++ l) (drop-of-length-le buffer {i = place a} (omega arith)) ∙ append-nil (header a))
+
+-- octets that are written so are the header
+alone-written : (p : List ℕ) (a : ℕ) → IsAddress a → (writing a p .answer ≡ wrote (length p)) × (writing a p .buffer ≡ p) → p ≡ header a
+alone-written p a n (answered, left) =
+    let (some, room) = writing-room a p (ap (λ (w : Written). w .refusal) answered) in
+    let long : length p ≡ place a = ap (λ (w : Written). w .count) (sym answered ∙ wrote-header a p n room .0) in
+    sym left ∙ wrote-alone a p n long .1
+
+empty-exactly : (p : List ℕ) → AreOctets p
+    → (reading p .refusal ≡ 16)
+    ↔ ((a : ℕ) × IsAddress a
+    × ((buffer : List ℕ) → length buffer ≡ length p → (writing a buffer .answer ≡ wrote (length p)) × (writing a buffer .buffer ≡ p)))
+empty-exactly p all = (
+  λ e.
+      let (a, n, same) = alone-read p all e in
+      let long : length p ≡ place a = ap length same ∙ length-header a in (
+        a,
+        n,
+        λ buffer as-long.
+            let (answered, left) = wrote-alone a buffer n (as-long ∙ long) in (answered ∙ ap wrote (sym long), left ∙ sym same),
+      ),
+  λ (a, n, written). sixteen-exactly p all .1 (a, n, alone-written p a n (written p refl)),
+)
+
 pub header-round-trip : HeaderRoundTrip writing reading
 header-round-trip = record {
   whereDone = where-done;
   readsBack = λ a buffer n h.
-      let (answered, left) = wrote-header a buffer n h in (answered, ap reading left ∙ reading-header n (drop (place a) buffer));
+      let (answered, left) = wrote-header a buffer n h in (
+        answered,
+        λ more. ap reading left ∙ reading-header n (drop (place a) buffer) (omega (arith, length-drop (place a) buffer)),
+      );
   writtenSo = λ p a k all e.
       let (n, short, end, same) = header-read p a k all e in (
         n,
@@ -199,4 +277,5 @@ header-round-trip = record {
               ap (take k) left ∙ take-at (header a) (drop (place a) buffer) k (length-header a ∙ sym end) ∙ sym same,
             ),
       );
+  emptyExactly = empty-exactly;
 }

@@ -7,6 +7,7 @@ pub mod Writing
 pub mod RefusalLaws
 pub mod OneRule
 pub mod Demand2
+pub mod Before
 pub mod WrongWriters
 pub mod WrongReaders
 pub mod Promises

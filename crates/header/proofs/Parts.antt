@@ -1,13 +1,14 @@
 -- The part of a packet that holds the address: as the code cuts it, how long it is, its first octet, and what follows where it has no fault.
 -- Assumes nothing.
 use mathlib.Core.Path.{_≡_, sym, ap, _∙_}
+use mathlib.Core.Bool.{not}
 use mathlib.Core.List.{List, [], _∷_}
 use Prim.Native.Nat.{ℕ, _+_, _-_, _^_, _≤_, _<_}
 use native.Mathlib.Decide.{ℕ-discrete}
 use native.Mathlib.Omega.{arith}
 use native.Mathlib.Nat.{add-sub-cancel-left}
 use borrow.Author.Tests.{eq-eqb, ne-eqb, lt-ltb, le-ltb, ltb-false}
-use lib.Dec.{ltb}
+use lib.Dec.{eqb, ltb, lit≤}
 use lib.ListN.{length, take, drop, getD, length-take, length-drop}
 use lib.Seq.{getD-take, getD-drop}
 use Rattle.address.specs.Choice.{if_then_else_}
@@ -16,6 +17,7 @@ use Rattle.address.proofs.ChoiceLaws.{if-zero}
 use Rattle.octets.proofs.Correspondence.{value-zeros}
 use Rattle.octets.proofs.OctetLaws.{value-snoc, take-octets, drop-octets, value-lt-of-zeros, value-ge-of-zeros}
 use Rattle.header.specs.Header.{addressOctets, addressFault, zeroFault, mostOctets, fixedOctets}
+use Rattle.header.proofs.Start.{if-most}
 
 pub length-addressOctets : (s : ℕ) (p : List ℕ) → fixedOctets + s ≤ length p → length (addressOctets s p) ≡ s
 unfolding addressOctets
@@ -82,6 +84,14 @@ module _ (s : ℕ) (p : List ℕ) where
   pub addressFault-long : s ≤ mostOctets → fixedOctets + s ≤ length p → addressFault s p ≡ zeroFault s (getD p fixedOctets 0)
   unfolding addressFault
   addressFault-long h l = rw (le-ltb mostOctets s h, le-ltb (length p) (fixedOctets + s) l)
+
+-- no fault has a number above 9
+pub addressFault-most : (s : ℕ) (p : List ℕ) → addressFault s p ≤ 9
+unfolding addressFault zeroFault
+addressFault-most s p =
+    let first = getD p fixedOctets 0 in
+    let zero = if-most (not (eqb first 0)) (lit≤ tt) (if-most (eqb s 1) (lit≤ tt) (lit≤ tt)) in
+    if-most (ltb mostOctets s) (lit≤ tt) (if-most (ltb (length p) (fixedOctets + s)) (lit≤ tt) zero)
 
 -- no fault: the size is allowed, the octets are there, and the first of them has none
 pub addressFault-zero : (s : ℕ) (p : List ℕ) → addressFault s p ≡ 0

@@ -6,13 +6,14 @@ use mathlib.Core.Logic.{_⊎_, inl, inr, Dec·and, Dec·not}
 use mathlib.Core.List.{List, [], _∷_, _++_}
 use Prim.Native.Nat.{ℕ, zero, suc, _+_, _-_, _/_, _%_, _≤_, _<_}
 use native.Mathlib.Decide.{ℕ-discrete, decLe, decLt}
+use native.Mathlib.Nat.{lt-of-not-le}
 use native.Mathlib.Omega.{arith}
 use borrow.Author.Tests.{eq-eqb, ne-eqb}
-use lib.Dec.{eqb, ltb}
-use lib.ListN.{length, drop, getD, take-append-drop}
+use lib.Dec.{eqb, ltb, lit<}
+use lib.ListN.{length, drop, getD, take-append-drop, length-drop}
 use Rattle.address.specs.Choice.{if_then_else_}
 use Rattle.address.specs.Order.{First}
-use Rattle.address.proofs.OrderLaws.{given-exactly}
+use Rattle.address.proofs.OrderLaws.{given-exactly, Numbered}
 use Rattle.octets.specs.Octets.{refuseWriting, write}
 use Rattle.address.proofs.Decided.{decided, one-of, holds}
 use Rattle.octets.proofs.LentLaws.{refusal-refuseWriting, refusal-write, Outcome, outcome-leaves, outcome-writes}
@@ -20,7 +21,7 @@ use Rattle.header.specs.Header.{mostOctets, header, place, writing, Head
 use Rattle.header.specs.Refusals.{writingOrder, HeaderWriteRefusals, octetAt, OtherTopBits, sizeSaid, sizedOrder, readingOrder, AcceptedHeader, HeaderReadRefusals}
 use Rattle.header.proofs.Start.{inOrder-absent, inOrder-wrong, inOrder-right, startFault-page, startFault-critical, startFault-zero}
 use Rattle.header.proofs.Parts.{length-addressOctets, zeroFault-some, zeroFault-single, zeroFault-several, addressFault-size, addressFault-short, addressFault-long, addressFault-zero}
-use Rattle.header.proofs.Cases.{reading-start, reading-address, reading-found, reading-cases, reading-inverse}
+use Rattle.header.proofs.Cases.{reading-start, reading-address, reading-empty, reading-found, Case, faulty, empty, right, reading-case, reading-inverse}
 use Rattle.header.proofs.Writing.{length-header, writing-zero, writing-short, writing-done}
 
 -- ---- writing
@@ -63,27 +64,41 @@ top-right p n =
     let above : 0b10100000 ≤ octetAt 1 p → ⊥ = λ h. n (inr h) in
     (omega arith, omega arith)
 
-first-sized : (s : ℕ) (p : List ℕ) → 0 < s → First (sizedOrder s p) (addressFault s p)
-first-sized s p some =
-    decided (decLt 8 s) (λ large. addressFault-size s p (omega arith)) λ small.
-    let allowed : s ≤ mostOctets = omega arith in
-    decided (decLt (length p) (fixedOctets + s)) (λ short. addressFault-short s p allowed short) λ long.
-    let fault = addressFault-long s p allowed (omega arith) in
-    let zero = ℕ-discrete (octetAt 3 p) 0 in
-    decided (Dec·and (ℕ-discrete s 1) zero) (λ c. fault ∙ zeroFault-single s (octetAt 3 p) (c .1) (c .0)) λ single.
-    decided (Dec·and (decLt 1 s) zero) (λ c. fault ∙ zeroFault-several s (octetAt 3 p) (c .1) (λ e. omega (arith, c .0))) λ several.
-    fault ∙ zeroFault-some s (octetAt 3 p) (λ z. let more : s ≡ 1 → ⊥ = λ e. single (e, z) in several (omega arith, z))
-
 module _ (p : List ℕ) where
   by-start : {n : ℕ} → startFault p ≡ suc n → reading p .refusal ≡ suc n
   by-start e = sym (ap (λ (x : HeaderAnswer). x .refusal) (reading-start p (sym e) (λ z. omega arith)))
 
-  by-address : startFault p ≡ 0 → reading p .refusal ≡ addressFault (sizeTold p) p
-  by-address s = go (addressFault (sizeTold p) p) refl
-    where
-      go : (n : ℕ) → addressFault (sizeTold p) p ≡ n → reading p .refusal ≡ n
-      go zero e = ap (λ (x : HeaderAnswer). x .refusal) (reading-found p s e)
-      go (suc n) e = sym (ap (λ (x : HeaderAnswer). x .refusal) (reading-address p s (sym e) (λ z. omega arith)))
+  -- behind the first three octets, where the second tells the size s
+  module _ (begun : startFault p ≡ 0) (s : ℕ) (told : sizeTold p ≡ s) where
+    by-address : {n : ℕ} → addressFault s p ≡ suc n → reading p .refusal ≡ suc n
+    by-address e =
+        let fault = sym e ∙ ap (λ (k : ℕ). addressFault k p) (sym told) in
+        sym (ap (λ (x : HeaderAnswer). x .refusal) (reading-address p begun fault (λ z. omega arith)))
+
+    module _ (whole : addressFault s p ≡ 0) where
+      no-fault : addressFault (sizeTold p) p ≡ 0
+      no-fault = ap (λ (k : ℕ). addressFault k p) told ∙ whole
+
+      by-payload : length p ≤ fixedOctets + s → reading p .refusal ≡ 16
+      by-payload h = ap (λ (x : HeaderAnswer). x .refusal) (reading-empty p begun no-fault (omega arith))
+
+      by-none : fixedOctets + s < length p → reading p .refusal ≡ 0
+      by-none h = ap (λ (x : HeaderAnswer). x .refusal) (reading-found p begun no-fault (omega arith))
+
+    first-sized : 0 < s → First (sizedOrder s p) (reading p .refusal)
+    first-sized some =
+        decided (decLt 8 s) (λ large. by-address (addressFault-size s p (omega arith))) λ small.
+        let allowed : s ≤ mostOctets = omega arith in
+        decided (decLt (length p) (fixedOctets + s)) (λ short. by-address (addressFault-short s p allowed short)) λ long.
+        let fault = addressFault-long s p allowed (omega arith) in
+        let zero = ℕ-discrete (octetAt 3 p) 0 in
+        decided (Dec·and (ℕ-discrete s 1) zero) (λ c. by-address (fault ∙ zeroFault-single s (octetAt 3 p) (c .1) (c .0))) λ single.
+        decided (Dec·and (decLt 1 s) zero)
+        (λ c. by-address (fault ∙ zeroFault-several s (octetAt 3 p) (c .1) (λ e. omega (arith, c .0)))) λ several.
+        let other : octetAt 3 p ≡ 0 → ⊥ = λ z. let more : s ≡ 1 → ⊥ = λ e. single (e, z) in several (omega arith, z) in
+        let whole = fault ∙ zeroFault-some s (octetAt 3 p) other in
+        decided (decLe (length p) (fixedOctets + s)) (λ h. by-payload whole h) λ h.
+        by-none whole (lt-of-not-le h)
 
 pub first-reading : (p : List ℕ) → First (readingOrder p) (reading p .refusal)
 unfolding startFault inOrder
@@ -105,8 +120,11 @@ first-reading p =
     (λ wrong. by-start p (critical ∙ inOrder-wrong isRoutingType [] p 2 (omega arith) (ne-eqb (octetAt 2 p) routingType wrong))) λ third.
     let type = eq-eqb (octetAt 2 p) routingType (holds (ℕ-discrete (octetAt 2 p) 15) third) in
     let begun = critical ∙ inOrder-right isRoutingType [] p 2 (omega arith) type in
-    let fault = by-address p begun ∙ ap (λ (k : ℕ). addressFault k p) (top-right p second .1) in
-    subst (λ (n : ℕ). First (sizedOrder (sizeSaid p) p) n) (sym fault) (first-sized (sizeSaid p) p (omega arith))
+    first-sized p begun (sizeSaid p) (top-right p second .1) (omega arith)
+
+-- no refusal of a reading has the number 0
+pub numbered-reading : (p : List ℕ) → Numbered (readingOrder p)
+numbered-reading p = (lit< tt, (lit< tt, (lit< tt, (lit< tt, (lit< tt, (lit< tt, (lit< tt, (lit< tt, (lit< tt, (lit< tt, (lit< tt, tt)))))))))))
 
 -- without a refusal the checks found no fault
 accepted : (p : List ℕ) → reading p .refusal ≡ 0 → AcceptedHeader p (reading p .address) (reading p .place)
@@ -114,7 +132,7 @@ unfolding sizeTold addressOctets
 accepted p e =
     let r = reading p in
     let answer : r ≡ found (r .address) (r .place) = ap (λ (n : ℕ). record { refusal = n; address = r .address; place = r .place }) e in
-    let (begun, whole, number, end) = reading-inverse p (r .address) (r .place) answer in
+    let (begun, whole, some, number, end) = reading-inverse p (r .address) (r .place) answer in
     let (o, rest, q, top) = startFault-zero p begun in
     let s = sizeTold p in
     let told : s ≡ o % 32 + 1 = ap (λ (l : List ℕ). getD l 1 0 % 32 + 1) q in
@@ -126,6 +144,7 @@ accepted p e =
     record {
       os = os;
       payload = drop s (drop fixedOctets p);
+      notEmpty = omega (arith, length-drop s (drop fixedOctets p), length-drop fixedOctets p);
       laid = q ∙ ap₂ (λ (x : ℕ) (l : List ℕ). 0xF1 ∷ x ∷ 15 ∷ l) second behind;
       sized = (omega arith, omega (arith, right .0));
       number = sym number;
@@ -135,11 +154,14 @@ accepted p e =
 pub header-read-refusals : HeaderReadRefusals reading
 header-read-refusals = record {
   given = λ p. given-exactly (readingOrder p) (first-reading p);
-  beside = λ p. beside p (reading-cases p);
+  beside = λ p. beside p (reading-case p);
   without = accepted;
 }
   where
-    beside : (p : List ℕ) → ((n : ℕ) × (reading p ≡ refusedHeader (suc n))) ⊎ ((startFault p ≡ 0) × (addressFault (sizeTold p) p ≡ 0))
-        → (reading p .refusal ≡ 0 → ⊥) → (reading p .address ≡ 0) × (reading p .place ≡ 0)
-    beside p (inl (n, e)) h = (ap (λ (x : HeaderAnswer). x .address) e, ap (λ (x : HeaderAnswer). x .place) e)
-    beside p (inr (s, f)) h = absurd (h (ap (λ (x : HeaderAnswer). x .refusal) (reading-found p s f)))
+    zeros : {x : HeaderAnswer} {n : ℕ} → x ≡ refusedHeader n → (x .address ≡ 0) × (x .place ≡ 0)
+    zeros e = (ap (λ (x : HeaderAnswer). x .address) e, ap (λ (x : HeaderAnswer). x .place) e)
+
+    beside : (p : List ℕ) → Case p → (reading p .refusal ≡ 0 → ⊥) → (reading p .address ≡ 0) × (reading p .place ≡ 0)
+    beside p (faulty l e) h = zeros e
+    beside p (empty s f l) h = zeros (reading-empty p s f l)
+    beside p (right s f l) h = absurd (h (ap (λ (x : HeaderAnswer). x .refusal) (reading-found p s f l)))

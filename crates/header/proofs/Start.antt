@@ -5,7 +5,7 @@ use mathlib.Core.List.{List, [], _∷_}
 use Prim.Native.Nat.{ℕ, suc, _/_, _≤_, _<_}
 use lib.ListN.{length, drop, getD, drop-of-length-le}
 use lib.Seq.{drop-cons}
-use lib.Dec.{eqb}
+use lib.Dec.{eqb, lit≤}
 use borrow.Author.Tests.{eq-eqb, eqb-true}
 use native.Mathlib.Omega.{arith}
 use Rattle.address.specs.Choice.{if_then_else_}
@@ -24,6 +24,21 @@ module _ (right : ℕ → Bool) (rest : List (ℕ → Bool)) (p : List ℕ) (i :
   pub inOrder-right : i < length p → right (getD p i 0) ≡ true → inOrder (right ∷ rest) (drop i p) ≡ inOrder rest (drop (suc i) p)
   unfolding inOrder
   inOrder-right h e = rw (drop-cons p i 0 h, e)
+
+-- no fault has a number above 5
+pub if-most : (t : Bool) {a b k : ℕ} → a ≤ k → b ≤ k → (if t then a else b) ≤ k
+if-most true h l = h
+if-most false h l = l
+
+inOrder-most : (rights : List (ℕ → Bool)) (p : List ℕ) → inOrder rights p ≤ 5
+unfolding inOrder
+inOrder-most [] p = lit≤ tt
+inOrder-most (right ∷ rest) [] = lit≤ tt
+inOrder-most (right ∷ rest) (o ∷ p) = if-most (right o) (inOrder-most rest p) (lit≤ tt)
+
+pub startFault-most : (p : List ℕ) → startFault p ≤ 5
+unfolding startFault
+startFault-most p = inOrder-most (isPageOctet ∷ hasCriticalPattern ∷ isRoutingType ∷ []) p
 
 -- the first octet, and the first two, are right: what the next check says decides
 pub startFault-page : (p : List ℕ) → 0 < length p → getD p 0 0 ≡ pageOctet → startFault p ≡ inOrder (hasCriticalPattern ∷ isRoutingType ∷ []) (drop 1 p)

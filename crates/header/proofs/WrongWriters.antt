@@ -2,7 +2,7 @@
 -- done without room in the empty buffer, and one that spoils in a buffer with one octet more than the header. One that has 10 before 9 is refuted by
 -- demand 1 at zero and the empty buffer. Assumes nothing.
 use mathlib.Core.Path.{refl, ap}
-use mathlib.Core.List.{List, []}
+use mathlib.Core.List.{List, [], _∷_}
 use Prim.Native.Nat.{ℕ}
 use native.Mathlib.Omega.{arith}
 use lib.Dec.{lit<, lit≤}
@@ -23,7 +23,7 @@ one = record { some = lit< tt; fits = lit< tt }
 
 pub silent-writer-refuted : HeaderRoundTrip silentWriter reading → ⊥
 unfolding silentWriter reading startFault inOrder place size bitLength bits bitsIn
-silent-writer-refuted claim = omega (arith, ap (λ (x : HeaderAnswer). x .refusal) (claim .readsBack 1 (replicate 4 0) one (lit≤ tt) .1))
+silent-writer-refuted claim = omega (arith, ap (λ (x : HeaderAnswer). x .refusal) (claim .readsBack 1 (replicate 5 0) one (lit≤ tt) .1 (lit< tt)))
 
 pub refusing-writer-refuted : HeaderRoundTrip refusingWriter reading → ⊥
 unfolding refusingWriter refuseWriting place size bitLength bits bitsIn
@@ -31,12 +31,12 @@ refusing-writer-refuted claim = omega (arith, ap (λ (w : Written). w .refusal) 
 
 pub roomless-writer-refuted : HeaderRoundTrip roomlessWriter reading → ⊥
 unfolding roomlessWriter write reading startFault inOrder place size bitLength bits bitsIn
-roomless-writer-refuted claim = omega (arith, ap (λ (x : HeaderAnswer). x .refusal) (claim .whereDone 1 [] [] 4 (one .fits) refl .0))
+roomless-writer-refuted claim = omega (arith, ap (λ (x : HeaderAnswer). x .refusal) (claim .whereDone 1 [] (0 ∷ []) 4 (one .fits) (lit< tt) refl .0))
 
 pub spoiling-writer-refuted : HeaderRoundTrip spoilingWriter reading → ⊥
 unfolding spoilingWriter writing write header octets place size bitLength bits bitsIn
 spoiling-writer-refuted claim =
-    omega (arith, ap (λ (l : List ℕ). getD l 0 0) (claim .whereDone 1 (replicate 5 0) [] 4 (one .fits) refl .1))
+    omega (arith, ap (λ (l : List ℕ). getD l 0 0) (claim .whereDone 1 (replicate 5 0) (0 ∷ []) 4 (one .fits) (lit< tt) refl .1))
 
 -- whatever reads what it writes
 pub padding-writer-refuted : (reader : HeaderReader) → HeaderRoundTrip paddingWriter reader → ⊥

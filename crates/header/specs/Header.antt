@@ -1,6 +1,6 @@
 -- The packet header. "Packet: octet 0xF1 (page 1, RFC 8025); octet 100sssss, where sssss is the number of address octets less one (house
--- choice); octet 15 as the type (house choice until a number is assigned); the address, most significant octet first; the payload, which
--- may be empty."
+-- choice); octet 15 as the type (house choice until a number is assigned); the address, most significant octet first; the payload", of which
+-- document 02 (Eight) says: "A packet whose payload is empty is refused with 16".
 use Prim.Native.Nat.{ℕ, _+_, _*_, _-_, _/_, _%_, _≤_}
 use mathlib.Core.Bool.{Bool, not}
 use mathlib.Core.List.{List, [], _∷_}
@@ -121,9 +121,15 @@ addressFault s p =
     else if ltb (length p) (fixedOctets + s) then 4
     else zeroFault s (getD p fixedOctets 0)
 
--- "The answer is the address and the place where the payload begins."
+-- the fewest octets of a payload: it isn't empty
+abbrev pub leastPayload : ℕ
+leastPayload = 1
+
+-- "A packet whose payload is empty is refused with 16, after every other header check" (document 02, Eight). "The answer is the address and the
+-- place where the payload begins."
 unfoldable pub reading : List ℕ → HeaderAnswer
 reading p =
     if not (eqb (startFault p) 0) then refusedHeader (startFault p)
     else if not (eqb (addressFault (sizeTold p) p) 0) then refusedHeader (addressFault (sizeTold p) p)
+    else if ltb (length p) (fixedOctets + sizeTold p + leastPayload) then refusedHeader 16
     else found (value (addressOctets (sizeTold p) p)) (fixedOctets + sizeTold p)

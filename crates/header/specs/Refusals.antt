@@ -45,8 +45,9 @@ OtherTopBits o = (o < 0b10000000) ⊎ (0b10100000 ≤ o)
 abbrev pub sizeSaid : List ℕ → ℕ
 sizeSaid p = octetAt 1 p - 0b10000000 + 1
 
--- behind the first three octets, where s address octets are said: document 01's order, and from document 02 (Three) "Document 01's size rule becomes
--- '1 to 8', refusal 6 means a size above 8 or a first octet of zero where there are several, and 9 means a single zero octet."
+-- behind the first three octets, where s address octets are said: document 01's order, from document 02 (Three) "Document 01's size rule becomes
+-- '1 to 8', refusal 6 means a size above 8 or a first octet of zero where there are several, and 9 means a single zero octet.", and from Eight 16
+-- "after every other header check"
 abbrev pub sizedOrder : ℕ → List ℕ → Order
 sizedOrder s p =
     -- "a size above 8"
@@ -57,6 +58,8 @@ sizedOrder s p =
     otherwise 9 when ((s ≡ 1) × (octetAt 3 p ≡ 0))
     -- "a first octet of zero where there are several"
     otherwise 6 when ((1 < s) × (octetAt 3 p ≡ 0))
+    -- "A packet whose payload is empty": no octet stands behind the address's
+    otherwise 16 when Absent (3 + s) p
     otherwise done
 
 abbrev pub readingOrder : List ℕ → Order
@@ -71,11 +74,13 @@ readingOrder p =
     otherwise sizedOrder (sizeSaid p) p
 
 -- "Packet: octet 0xF1 ..; octet 100sssss, where sssss is the number of address octets less one ..; octet 15 as the type ..; the address,
--- most significant octet first; the payload, which may be empty." "The answer is the address and the place where the payload begins."
+-- most significant octet first; the payload", which since document 02 (Eight) isn't empty. "The answer is the address and the place where the
+-- payload begins."
 pub record AcceptedHeader (p : List ℕ) (address place : ℕ) : Type 0 where
   pub os : List ℕ
   pub payload : List ℕ
   pub laid : p ≡ 0xF1 ∷ (0b10000000 + (length os - 1)) ∷ 15 ∷ (os ++ payload)
+  pub notEmpty : 0 < length payload
   pub sized : IsSize (length os)
   pub number : address ≡ value os
   pub behind : place ≡ 3 + length os

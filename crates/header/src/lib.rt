@@ -6,7 +6,7 @@ ghost use Prim.Native.Nat.{_≤_};
 ghost use Rattle.header.specs.Header.{size, writing, headerAnswer, reading, startFault, zeroFault, addressFault};
 
 // Refusals: "the packet ends too early", "one of the first three octets is wrong", "a size above 8 or a first octet of zero where there are
-// several", "lent output too short".
+// several", "lent output too short", "A packet whose payload is empty".
 pub const ENDS_EARLY: u8 = 4;
 
 pub const WRONG_START: u8 = 5;
@@ -14,6 +14,8 @@ pub const WRONG_START: u8 = 5;
 pub const WRONG_SIZE: u8 = 6;
 
 pub const NO_ROOM: u8 = 10;
+
+pub const EMPTY: u8 = 16;
 
 const PAGE_OCTET: u8 = 0xF1;
 
@@ -24,6 +26,8 @@ const ROUTING_TYPE: u8 = 15;
 const FIXED_OCTETS: usize = 3;
 
 const MOST_OCTETS: usize = 8;
+
+const LEAST_PAYLOAD: usize = 1;
 
 // What reading a header answers: the address and the place where the payload begins, or a refusal.
 pub enum Reading {
@@ -118,7 +122,7 @@ fn address_fault(packet: &[u8], size: usize) -> u8
     zero_fault(size, packet[FIXED_OCTETS])
 }
 
-// Reads the header at the front of a packet.
+// Reads the header at the front of a packet, which has a payload behind it.
 pub fn read(packet: &[u8]) -> Reading
     ensures { λ r. ⌜ headerAnswer r ≡ reading (now (packet .entry)) ⌝ }
 {
@@ -132,6 +136,9 @@ pub fn read(packet: &[u8]) -> Reading
         return Reading::Refused(wrong_address);
     }
     let end = FIXED_OCTETS + size;
+    if packet.len() < end + LEAST_PAYLOAD {
+        return Reading::Refused(EMPTY);
+    }
     let number = octets::get(&packet[FIXED_OCTETS..end]);
     Reading::Found(Address::of(number), end)
 }

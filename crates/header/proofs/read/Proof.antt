@@ -1,7 +1,7 @@
 -- `header::read` meets its contract: each return is one case of `reading`. Assumes nothing.
 use mathlib.Core.Path.{_≡_, sym, ap, _∙_}
 use mathlib.Core.List.{List}
-use Prim.Native.Nat.{ℕ, _+_, _%_, _^_}
+use Prim.Native.Nat.{ℕ, _+_, _%_, _^_, _≤_, _<_}
 use native.Mathlib.Omega.{arith}
 use lib.ListN.{length}
 use Rattle.octets.specs.Octets.{value, AreOctets}
@@ -9,7 +9,7 @@ use Rattle.octets.proofs.OctetLaws.{all-octets, value-mod}
 use Rattle.header.specs.Header.{headerAnswer, found, startFault, sizeTold, addressFault, addressOctets}
 use Rattle.header.proofs.Start.{startFault-length}
 use Rattle.header.proofs.Parts.{length-addressOctets, part-addressOctets, octets-addressOctets, addressFault-zero}
-use Rattle.header.proofs.Cases.{reading-start, reading-address, reading-found}
+use Rattle.header.proofs.Cases.{reading-start, reading-address, reading-empty, reading-found}
 use borrow.Author.Needs.{needs}
 use Rattle.header.proofs.read.Statement.{statement}
 use Rattle.header.proofs.read.Tie as tie
@@ -54,6 +54,17 @@ returns-2 c = reading-address (c .before .before .before .before .before .before
 add-end : tie.Need-add-end
 add-end c = search needs
 
+add-if3 : tie.Need-add-if3
+add-if3 c = search needs
+
+returns-3 : tie.Need-returns-3
+unfolding headerAnswer sizeTold
+returns-3 c =
+    let at = c .before in
+    let p = at .before .before .before .before .before .before .args .packet .now in
+    let h : length p ≤ 3 + sizeTold p = omega (arith, c .if3 .taken) in
+    sym (reading-empty p (start-right (at .before .before .before)) (address-right at) h)
+
 sub-get : tie.Need-sub-get
 sub-get c = search needs
 
@@ -62,7 +73,7 @@ part-get-start c = search needs
 
 part-get-end : tie.Need-part-get-end
 unfolding sizeTold
-part-get-end c = let p = c .before .before .before .before .before .before .args .packet .now in addressFault-zero (sizeTold p) p (address-right c) .1
+part-get-end c = let p = c .before .before .before .before .before .before .before .args .packet .now in addressFault-zero (sizeTold p) p (address-right (c .before)) .1
 
 get-requires : tie.Need-get-requires
 get-requires c κs = search needs
@@ -70,10 +81,11 @@ get-requires c κs = search needs
 of-requires : tie.Need-of-requires
 of-requires c κs = search needs
 
-returns-3 : tie.Need-returns-3
+returns-4 : tie.Need-returns-4
 unfolding headerAnswer sizeTold
-returns-3 c =
-    let at = c .before .before .before in
+returns-4 c =
+    let behind = c .before .before .before in
+    let at = behind .before in
     let p = at .before .before .before .before .before .before .args .packet .now in
     let right = addressFault-zero (sizeTold p) p (address-right at) in
     let number : c .of .result .number ≡ value (addressOctets (sizeTold p) p) =
@@ -83,7 +95,8 @@ returns-3 c =
     ∙ value-mod (addressOctets (sizeTold p) p)
     (octets-addressOctets (sizeTold p) p (all-octets p (λ i. omega (arith, at .before .before .shared-slice-known2 .given i))))
     (omega (arith, length-addressOctets (sizeTold p) p (right .1), right .0)) in
-    ap (λ (a : ℕ). found a (3 + sizeTold p)) number ∙ sym (reading-found p (start-right (at .before .before .before)) (address-right at))
+    let some : 3 + sizeTold p < length p = omega (arith, behind .if3 .left) in
+    ap (λ (a : ℕ). found a (3 + sizeTold p)) number ∙ sym (reading-found p (start-right (at .before .before .before)) (address-right at) some)
 
 pub read-spec : {M : Type 1} → statement M
 read-spec =
@@ -97,9 +110,11 @@ read-spec =
     address-fault-requires
     returns-2
     add-end
+    add-if3
+    returns-3
     sub-get
     part-get-start
     part-get-end
     get-requires
     of-requires
-    returns-3)
+    returns-4)
