@@ -1,5 +1,6 @@
 -- The laws of the packet crate.
 pub mod PacketHops
 pub mod RefusalLaws
+pub mod OneRule
 pub mod WrongRules
 pub mod Promises

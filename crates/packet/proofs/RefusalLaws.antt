@@ -6,15 +6,14 @@ use mathlib.Core.Logic.{inl, inr}
 use mathlib.Core.List.{List}
 use Prim.Native.Nat.{ℕ, zero, suc, _^_, _<_}
 use native.Mathlib.Omega.{arith}
-use lib.Dec.{lit<}
 use Rattle.address.specs.Bits.{longest}
 use Rattle.address.specs.Numbers.{IsAddress}
 use Rattle.address.specs.Order.{done, _when_otherwise_, _then_, First}
-use Rattle.address.proofs.OrderLaws.{given-exactly, Numbered, first-then}
+use Rattle.address.proofs.OrderLaws.{given-exactly, first-then}
 use Rattle.octets.specs.Octets.{AreOctets}
 use Rattle.header.specs.Header.{reading, found, refusedHeader}
 use Rattle.header.specs.Refusals.{readingOrder}
-use Rattle.header.proofs.RefusalLaws.{first-reading, header-read-refusals}
+use Rattle.header.proofs.RefusalLaws.{first-reading, numbered-reading, header-read-refusals}
 use Rattle.header.proofs.Demand2.{header-read}
 use Rattle.node.specs.Node.{addressIn, isGood}
 use Rattle.node.specs.declared.Node.{Node}
@@ -67,9 +66,6 @@ module _ (n : Node) (p : List ℕ) (g : isGood n ≡ true) where
           → First (7 when ChildNotGiven n (reading p .address) otherwise done) (nextHop n (reading p .address) .refusal)
       go a = left a (first-hop n (reading p .address) f (a .fits))
 
-numbered : (p : List ℕ) → Numbered (readingOrder p)
-numbered p = (lit< tt, (lit< tt, (lit< tt, (lit< tt, (lit< tt, (lit< tt, (lit< tt, (lit< tt, (lit< tt, (lit< tt, tt))))))))))
-
 first-packet : (n : Node) (p : List ℕ) → addressIn n < 2 ^ longest → AreOctets p → First (packetOrder n p) (packetHop n p .refusal)
 unfolding _then_
 first-packet n p f are = go (isGood n) refl
@@ -79,7 +75,7 @@ first-packet n p f are = go (isGood n) refl
     go true g = inr (
       not-bad n g,
       first-then (readingOrder p) (7 when ChildNotGiven n (reading p .address) otherwise done)
-          (numbered p) (first-reading p) (λ e. first-address n p g f are e) (λ e. number (by-address n p g e)) (λ h. by-reading n p g h),
+          (numbered-reading p) (first-reading p) (λ e. first-address n p g f are e) (λ e. number (by-address n p g e)) (λ h. by-reading n p g h),
     )
 
 pub packet-refusals : PacketRefusals packetHop
