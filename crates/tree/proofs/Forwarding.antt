@@ -1,14 +1,16 @@
 -- In a sound tree a packet for d goes by the path to x, the node on the way to d to which every other node on it leads: whoever is not on the
 -- way to x is not on the way to d and passes it up, whoever is passes it down to a child in the tree, which is given, and x itself has d's
--- next child not given, or is d. Arrival is x = d, and absence is the deepest ancestor of d in the tree.
+-- next child not given, or is d. Arrival is x = d, and absence is the deepest ancestor of d in the tree. A header alone goes nowhere.
 use mathlib.Core.Path.{_≡_, refl, sym, ap, _∙_, subst}
-use mathlib.Core.Logic.{⊎-elim}
+use mathlib.Core.Logic.{_↔_, ⊎-elim}
 use mathlib.Core.Bool.{true}
 use mathlib.Core.List.{List, [], _∷_, _++_, append-assoc, Memᴰ·cast}
 use Prim.Native.Nat.{ℕ, _≤_, _<_}
 use native.Mathlib.Nat.{lt-of-not-le}
 use native.Mathlib.Omega.{arith}
-use lib.ListN.{length}
+use lib.Dec.{lit<}
+use lib.ListN.{length, drop}
+use lib.Seq.{drop-at}
 use Rattle.address.specs.declared.Kind.{Kind}
 use Rattle.address.specs.Bits.{root}
 use Rattle.address.specs.Steps.{Step, child, steps, addressOf}
@@ -18,15 +20,16 @@ use Rattle.address.specs.Numbers.{IsAddress}
 use Rattle.address.specs.Ancestors.{AncestorOrSelf}
 use Rattle.address.proofs.Steps.{addressOf-steps, addressOf-root}
 use Rattle.address.proofs.Ancestors.{steps-injective}
-use Rattle.octets.proofs.OctetLaws.{append-octets}
+use Rattle.octets.proofs.OctetLaws.{append-octets, drop-octets}
 use Rattle.header.specs.Header.{header, place}
-use Rattle.header.proofs.Demand2.{octets-header, reading-header, header-read}
+use Rattle.header.proofs.Writing.{length-header}
+use Rattle.header.proofs.Demand2.{octets-header, reading-header, reading-alone, header-read, found-exactly}
 use Rattle.node.specs.Node.{addressIn, count, isGood}
 use Rattle.node.specs.declared.Node.{Node}
 use Rattle.forward.specs.Forward.{HopAnswer, nextHop}
 use Rattle.forward.proofs.Hops.{nextHop-deliver, nextHop-up, nextHop-down, nextHop-stop, next-step}
 use Rattle.packet.specs.Packet.{packetHop}
-use Rattle.packet.proofs.PacketHops.{packetHop-found}
+use Rattle.packet.proofs.PacketHops.{packetHop-refused, packetHop-found}
 use Rattle.route.specs.Path.{path}
 use Rattle.route.proofs.Turning.{ancestorOrSelf-refl, ancestorOrSelf-cons, ancestorOrSelf-cases, ancestorOrSelf-length, ancestorOrSelf-tail}
 use Rattle.route.proofs.PathLaws.{steps-ancestorOrSelf, depth-steps, off-root}
@@ -205,11 +208,37 @@ absence t sound a d p i out packet = go (nearest-above sound b (steps d) (ancest
       },
     )
 
--- every header with a payload is a packet
+-- ---- every header with a payload is a packet
 
-pub packets : (d : ℕ) (payload : List ℕ) → IsAddress d → AreOctets payload → IsPacket (header d ++ payload) d
-packets d payload n all = record {
+pub packets : (d : ℕ) (payload : List ℕ) → IsAddress d → AreOctets payload → 0 < length payload → IsPacket (header d ++ payload) d
+packets d payload n all some = record {
   octets = append-octets (header d) payload (octets-header n) all;
   place = place d;
-  reads = reading-header n payload;
+  reads = reading-header n payload some;
 }
+
+-- and there are no others
+pub packets-exactly : (p : List ℕ) (d : ℕ)
+    → IsPacket p d ↔ (IsAddress d × ((payload : List ℕ) × AreOctets payload × (0 < length payload) × (p ≡ header d ++ payload)))
+packets-exactly p d = (
+  λ packet.
+      let (address, end, (payload, some, laid)) = found-exactly p d (packet .place) (packet .octets) .0 (packet .reads) in
+      let are = drop-octets (place d) p (packet .octets) in
+      (address, (payload, subst AreOctets (ap (drop (place d)) laid ∙ drop-at (header d) payload (place d) (length-header d)) are, some, laid)),
+  λ (address, (payload, are, some, e)). subst (λ (l : List ℕ). IsPacket l d) (sym e) (packets d payload address are some),
+)
+
+-- the shortest one
+abbrev pub shortest : ℕ → List ℕ
+shortest d = header d ++ (0 ∷ [])
+
+pub packet-shortest : {d : ℕ} → IsAddress d → IsPacket (shortest d) d
+packet-shortest {d} n = packets d (0 ∷ []) n (lit< tt, tt) (lit< tt)
+
+-- ---- a header alone is refused where it starts
+
+pub empty : (t : Tree) → Sound t → (a d : ℕ) → InTree a t → IsAddress d → TheWay packetHop t (header d) a (a ∷ []) (stoppedAt 16 a)
+unfolding fate
+empty t sound a d i n =
+    let (m, stands, own) = recordOf-inTree t i in
+    theWay-stopped packetHop t (header d) stands (ap fate (packetHop-refused m (header d) (sound .good a m stands) (reading-alone n)))

@@ -15,3 +15,4 @@ pub mod Opened
 pub mod WrongChildren
 pub mod WrongSettings
 pub mod WrongHops
+pub mod WrongEmpties

@@ -11,7 +11,6 @@ use borrow.Author.Tests.{le-leb, ne-eqb}
 use Rattle.address.specs.Bits.{number, root}
 use Rattle.address.specs.Numbers.{IsAddress}
 use Rattle.address.specs.declared.Kind.the-variants.{Router, Host}
-use Rattle.header.specs.Header.{header}
 use Rattle.node.specs.Node.{fresh, withCounts, withLimits, isGood, childBits, setLimit}
 use Rattle.node.specs.declared.Node.{Node}
 use Rattle.node.specs.WrongRules.{childBy, givesChild, pastLimit}
@@ -24,14 +23,10 @@ use Rattle.tree.specs.Demand3.{Demand3}
 use Rattle.tree.specs.WrongChildren.{sameChild, sharedCount, limitOnParent}
 use Rattle.tree.proofs.Opened.{trees-opened, hops-opened}
 use Rattle.tree.proofs.Trees.{inTree-recordOf}
-use Rattle.tree.proofs.Forwarding.{packets}
+use Rattle.tree.proofs.Forwarding.{shortest, packet-shortest}
 
--- a header with nothing behind it
-pub header-alone : {d : ℕ} → IsAddress d → IsPacket (header d) d
-header-alone {d} n = subst (λ (p : List ℕ). IsPacket p d) (append-nil (header d)) (packets d [] n tt)
-
-pub packet-root : IsPacket (header root) root
-packet-root = header-alone (record { some = lit< tt; fits = lit< tt })
+pub packet-root : IsPacket (shortest root) root
+packet-root = packet-shortest (record { some = lit< tt; fits = lit< tt })
 
 -- a packet for the root, whose record is bad: it is refused where it starts
 pub stops-itself : (child : ChildRule) (set : SettingRule) (es : List Event) {n : Node} → recordOf root (grown child set es) ≡ standing n
@@ -39,8 +34,8 @@ pub stops-itself : (child : ChildRule) (set : SettingRule) (es : List Event) {n 
 unfolding fate
 stops-itself child set es {n} stands bad claim =
     let there = inTree-recordOf root n (grown child set es) stands in
-    let arrives = claim .arrival root root (header root) there there packet-root in
-    let refuses : fate (packetHop n (header root)) ≡ stoppedWith 1 = ap fate (packetHop-bad n (header root) bad) in
+    let arrives = claim .arrival root root (shortest root) there there packet-root in
+    let refuses : fate (packetHop n (shortest root)) ≡ stoppedWith 1 = ap fate (packetHop-bad n (shortest root) bad) in
     let e : stoppedAt 1 root ≡ deliveredAt root root = arrives .theWay .only (root ∷ []) (stoppedAt 1 root) (stopped stands refuses) .1 in
     let z : _≡_ {A = ℕ} 0 1 = cc in
     omega arith
@@ -56,8 +51,8 @@ sameChild-refuted h = h (asking (request root Router) ∷ asking (request root R
 abbrev routerThenHost : List Event
 routerThenHost = asking (request root Router) ∷ asking (request root Host) ∷ []
 
-packet-110 : IsPacket (header 0b110) 0b110
-packet-110 = header-alone (record { some = lit< tt; fits = lit< tt })
+packet-110 : IsPacket (shortest 0b110) 0b110
+packet-110 = packet-shortest (record { some = lit< tt; fits = lit< tt })
 
 other-than-110 : List·Memᴰ {A = ℕ} 0b110 (0b1 ∷ 0b10 ∷ 0b111 ∷ []) → ⊥
 other-than-110 (List·Memᴰ·head e) = omega arith
@@ -76,17 +71,17 @@ one-count-there = List·Memᴰ·head refl
 abbrev twoRouters : Node
 twoRouters = withCounts 2 0 (fresh root)
 
-fate-110 : fate (packetHop twoRouters (header 0b110)) ≡ passedTo 0b110
+fate-110 : fate (packetHop twoRouters (shortest 0b110)) ≡ passedTo 0b110
 unfolding hops-opened
-fate-110 = ap fate (packetHop-found twoRouters (header 0b110) refl (packet-110 .reads))
+fate-110 = ap fate (packetHop-found twoRouters (shortest 0b110) refl (packet-110 .reads))
 
-one-count-way : Way packetHop (grown sharedCount setLimit routerThenHost) (header 0b110) root (root ∷ []) (lostAt root)
+one-count-way : Way packetHop (grown sharedCount setLimit routerThenHost) (shortest 0b110) root (root ∷ []) (lostAt root)
 unfolding trees-opened sharedCount
 one-count-way = lost {x = 0b110} {n = twoRouters} refl fate-110 one-count-absent
 
 pub sharedCount-refuted : ((rs : List Event) → Demand3 sharedCount setLimit packetHop rs) → ⊥
 sharedCount-refuted h =
-    let stops = h routerThenHost .absence root 0b110 (header 0b110) one-count-there one-count-absent packet-110 in
+    let stops = h routerThenHost .absence root 0b110 (shortest 0b110) one-count-there one-count-absent packet-110 in
     let e : lostAt root ≡ stoppedAt 7 (stops .0) = stops .1 .theWay .only (root ∷ []) (lostAt root) one-count-way .1 in
     let z : _≡_ {A = ℕ} 0 1 = cc in
     omega arith

@@ -25,7 +25,7 @@ use Rattle.tree.specs.Demand3.{Demand3, Arrives}
 use Rattle.tree.specs.WrongHops.{AddressRule, hopBy, rulesBy, rightParts, refusesEverything, parentToAll, leaps, namesNobody, hostKeeps, hostDelivers, rootAsHost, lowBits, lookedShort, beforeLastBit, oneCount}
 use Rattle.tree.proofs.Opened.{trees-opened, hops-opened}
 use Rattle.tree.proofs.Ways.{way-passed}
-use Rattle.tree.proofs.Forwarding.{packets}
+use Rattle.tree.proofs.Forwarding.{shortest, packet-shortest}
 
 -- the wrong rules are made as the right one is
 
@@ -37,12 +37,12 @@ rulesBy-right : (n : Node) (d : ℕ) → rulesBy rightParts n d ≡ rules n d
 unfolding rulesBy rules toward
 rulesBy-right n d = refl
 
--- a rule's answer for a header
-hopBy-header : (rule : AddressRule) (n : Node) {d : ℕ} → isGood n ≡ true → IsAddress d → hopBy rule n (header d ++ []) ≡ rule n d
+-- a rule's answer for the shortest packet
+hopBy-header : (rule : AddressRule) (n : Node) {d : ℕ} → isGood n ≡ true → IsAddress d → hopBy rule n (shortest d) ≡ rule n d
 unfolding hopBy
 hopBy-header rule n {d} good a =
-    let p = header d ++ [] in
-    let e = reading-header a [] in
+    let p = shortest d in
+    let e = reading-header a (0 ∷ []) (lit< tt) in
     rw (good, eq-eqb (reading p .refusal) 0 (ap (λ (r : HeaderAnswer). r .refusal) e)) (ap (λ (r : HeaderAnswer). rule n (r .address)) e)
 
 -- ---- small trees
@@ -62,13 +62,13 @@ not-cons other out i = ⊎-elim other out (List·Memᴰ·cases-cons i)
 -- ---- what arrival excludes
 
 module _ (rule : AddressRule) (claim : (rs : List Event) → Demand3 childOf setLimit (hopBy rule) rs) (rs : List Event) {d : ℕ} (b : IsAddress d) where
-  -- the header of a node d, at a node a
+  -- the shortest packet for a node d, at a node a
   module _ {a : ℕ} (i : InTree a (grown childOf setLimit rs)) (j : InTree d (grown childOf setLimit rs)) where
-    arrives : Arrives (hopBy rule) (grown childOf setLimit rs) (header d ++ []) a d
-    arrives = claim rs .arrival a d (header d ++ []) i j (packets d [] b tt)
+    arrives : Arrives (hopBy rule) (grown childOf setLimit rs) (shortest d) a d
+    arrives = claim rs .arrival a d (shortest d) i j (packet-shortest b)
 
     module _ {n : Node} (r : recordOf a (grown childOf setLimit rs) ≡ standing n) (good : isGood n ≡ true) where
-      answers : {f : Fate} → fate (rule n d) ≡ f → fate (hopBy rule n (header d ++ [])) ≡ f
+      answers : {f : Fate} → fate (rule n d) ≡ f → fate (hopBy rule n (shortest d)) ≡ f
       answers f = ap fate (hopBy-header rule n good b) ∙ f
 
       never-stopped : {k : ℕ} → fate (rule n d) ≡ stoppedWith k → ⊥
@@ -180,7 +180,7 @@ oneCount-refuted claim =
     let rs = asking (request 1 router) ∷ [] in
     let b = address 2 (lit< tt) in
     let out : InTree 3 (grown childOf setLimit rs) → ⊥ = not-cons (λ e. omega arith) (not-cons (λ e. omega arith) List·Memᴰ·not-nil) in
-    let (x, end) = claim rs .absence 1 3 (header 3 ++ []) (first refl) out (packets 3 [] b tt) in
+    let (x, end) = claim rs .absence 1 3 (shortest 3) (first refl) out (packet-shortest b) in
     let same = end .theWay .only (1 ∷ []) (lostAt 1) (lost refl (ap fate (hopBy-header _ (raised router (fresh 1)) refl b)) out) in
     let z : _≡_ {A = ℕ} 0 1 = cc in
     omega arith

@@ -6,7 +6,6 @@ use native.Mathlib.Omega.{arith}
 use lib.Dec.{lit<}
 use Rattle.address.specs.Bits.{root}
 use Rattle.address.specs.declared.Kind.the-variants.{Router}
-use Rattle.header.specs.Header.{header}
 use Rattle.node.specs.Node.{fresh, withCounts, withLimits, childOf}
 use Rattle.node.specs.declared.Node.{Node}
 use Rattle.packet.specs.Packet.{packetHop}
@@ -16,7 +15,8 @@ use Rattle.tree.specs.Way.{passedTo, fate, stoppedAt, lostAt, Way, lost,
 use Rattle.tree.specs.Demand3.{Demand3}
 use Rattle.tree.specs.WrongSettings.{handingBack, zeroesCounts, raisesCount, anotherNode, belowCount}
 use Rattle.tree.proofs.Opened.{trees-opened, hops-opened}
-use Rattle.tree.proofs.WrongChildren.{header-alone, stops-itself}
+use Rattle.tree.proofs.Forwarding.{shortest, packet-shortest}
+use Rattle.tree.proofs.WrongChildren.{stops-itself}
 
 -- the root's limit on routers, as it is
 abbrev setsRoot : Event
@@ -30,8 +30,8 @@ zeroesCounts-refuted h = h (asking (request root Router) ∷ setsRoot ∷ asking
 
 -- ---- a count raised: the root passes a packet for 10 to nobody
 
-packet-10 : IsPacket (header 0b10) 0b10
-packet-10 = header-alone (record { some = lit< tt; fits = lit< tt })
+packet-10 : IsPacket (shortest 0b10) 0b10
+packet-10 = packet-shortest (record { some = lit< tt; fits = lit< tt })
 
 raised-absent : InTree 0b10 (grown childOf raisesCount (setsRoot ∷ [])) → ⊥
 unfolding trees-opened raisesCount handingBack
@@ -48,17 +48,17 @@ raised-there = List·Memᴰ·head refl
 abbrev oneRouter : Node
 oneRouter = withCounts 1 0 (fresh root)
 
-fate-10 : fate (packetHop oneRouter (header 0b10)) ≡ passedTo 0b10
+fate-10 : fate (packetHop oneRouter (shortest 0b10)) ≡ passedTo 0b10
 unfolding hops-opened
-fate-10 = ap fate (packetHop-found oneRouter (header 0b10) refl (packet-10 .reads))
+fate-10 = ap fate (packetHop-found oneRouter (shortest 0b10) refl (packet-10 .reads))
 
-raised-way : Way packetHop (grown childOf raisesCount (setsRoot ∷ [])) (header 0b10) root (root ∷ []) (lostAt root)
+raised-way : Way packetHop (grown childOf raisesCount (setsRoot ∷ [])) (shortest 0b10) root (root ∷ []) (lostAt root)
 unfolding trees-opened raisesCount handingBack
 raised-way = lost {x = 0b10} {n = oneRouter} refl fate-10 raised-absent
 
 pub raisesCount-refuted : ((es : List Event) → Demand3 childOf raisesCount packetHop es) → ⊥
 raisesCount-refuted h =
-    let stops = h (setsRoot ∷ []) .absence root 0b10 (header 0b10) raised-there raised-absent packet-10 in
+    let stops = h (setsRoot ∷ []) .absence root 0b10 (shortest 0b10) raised-there raised-absent packet-10 in
     let e : lostAt root ≡ stoppedAt 7 (stops .0) = stops .1 .theWay .only (root ∷ []) (lostAt root) raised-way .1 in
     let z : _≡_ {A = ℕ} 0 1 = cc in
     omega arith

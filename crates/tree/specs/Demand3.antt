@@ -1,8 +1,9 @@
 -- Demand 3, one claim about every list of requests and settings, for any rule for a child, any rule for a setting and any rule for the next hop
--- from octets.
-use Prim.Native.Nat.{ℕ, _≤_}
+-- from octets. Since document 02 (Eight) it "speaks of packets with at least one payload octet; an empty one stops with 16 where it starts."
+use Prim.Native.Nat.{ℕ, _≤_, _<_}
 use mathlib.Core.Path.{_≡_}
-use mathlib.Core.List.{List, _∷_, _++_}
+use mathlib.Core.List.{List, [], _∷_, _++_}
+use lib.ListN.{length}
 use Rattle.address.specs.Bits.{root}
 use Rattle.address.specs.Steps.{Step, steps, addressOf}
 use Rattle.address.specs.Address.{depth}
@@ -40,8 +41,8 @@ pub record StopsAt (hop : HopRule) (t : Tree) (p : List ℕ) (a d x : ℕ) : Typ
 
 -- demand 3 for one list: its tree, with the records as they stand after it
 pub record Demand3 (child : ChildRule) (set : SettingRule) (hop : HopRule) (es : List Event) : Type 0 where
-  -- "every address's header, as written below, with any payload behind it, is one"
-  pub packets : (d : ℕ) (payload : List ℕ) → IsAddress d → AreOctets payload → IsPacket (header d ++ payload) d
+  -- "every address's header, as written below, with any payload behind it, is one", of at least one octet
+  pub packets : (d : ℕ) (payload : List ℕ) → IsAddress d → AreOctets payload → 0 < length payload → IsPacket (header d ++ payload) d
   -- "The tree after a list is the root and every address given in it without a refusal."
   pub nodes : addresses (grown child set es) ≡ root ∷ givenIn child set es
   -- "After it all addresses given differ, the root's among them."
@@ -51,3 +52,5 @@ pub record Demand3 (child : ChildRule) (set : SettingRule) (hop : HopRule) (es :
   -- "A packet started at any node, for an address not in that tree"
   pub absence : (a d : ℕ) (p : List ℕ) → InTree a (grown child set es) → (InTree d (grown child set es) → ⊥) → IsPacket p d
       → (x : ℕ) × StopsAt hop (grown child set es) p a d x
+  -- "an empty one stops with 16 where it starts": a header and no more, for any address, at any node, and it has no other way
+  pub empty : (a d : ℕ) → InTree a (grown child set es) → IsAddress d → TheWay hop (grown child set es) (header d) a (a ∷ []) (stoppedAt 16 a)

@@ -53,7 +53,7 @@ pub record TheWay (hop : HopRule) (t : Tree) (p : List ℕ) (a : ℕ) (w : List 
   pub way : Way hop t p a w e
   pub only : (v : List ℕ) (f : End) → Way hop t p a v f → (v ≡ w) × (f ≡ e)
 
--- "A packet is here any octets that the reading accepts, and it is for the address read"
+-- "A packet is here any octets that the reading accepts, and it is for the address read"; since document 02 (Eight) it has at least one payload octet
 pub record IsPacket (p : List ℕ) (d : ℕ) : Type 0 where
   pub octets : AreOctets p
   pub place : ℕ
