@@ -6,3 +6,4 @@ mod JournalCodeLines
 mod LimitLines
 mod LargerLines
 mod NsaLines
+mod EmptyLines

@@ -47,13 +47,14 @@ the-setting = record {
 pub of-any-rules : OfAnyRules
 of-any-rules = record {
   demand3 = λ child set hop es. (
-    λ claim. (claim .packets, claim .nodes, claim .differ, claim .arrival, claim .absence),
-    λ (packets, nodes, differ, arrival, absence). record {
+    λ claim. (claim .packets, claim .nodes, claim .differ, claim .arrival, claim .absence, claim .empty),
+    λ (packets, nodes, differ, arrival, absence, empty). record {
       packets = packets;
       nodes = nodes;
       differ = differ;
       arrival = arrival;
       absence = absence;
+      empty = empty;
     },
   );
   aChild = λ rule. (

@@ -100,6 +100,7 @@ use Rattle.tree.proofs.Runs.{grown-snoc, ask-given, ask-refused, ask-nobody, se
 use Rattle.tree.specs.Demand3.{Arrives}
 use Rattle.packet.specs.Packet.{packetHop}
 use Rattle.tree.proofs.Growth.{sound-grown}
+use Rattle.tree.proofs.Forwarding.{shortest, packet-shortest, packets-exactly}
 use Rattle.tree.proofs.Theorem.{demand-3}
 use Rattle.tree.proofs.WrongChildren.{sameChild-refuted, sharedCount-refuted, limitOnParent-refuted}
 use Rattle.tree.proofs.WrongHops.{refusesEverything-refuted, parentToAll-refuted, leaps-refuted, namesNobody-refuted, hostKeeps-refuted, hostDelivers-refuted, rootAsHost-refuted, lowBits-refuted, beforeLastBit-refuted, oneCount-refuted}
@@ -313,7 +314,8 @@ headers = record {
   answersFound = λ a k. refl;
   answersRefused = λ n. refl;
   written = wrote-header;
-  readsBack = λ a buffer payload n h done. header-round-trip .whereDone a buffer payload n h done .0;
+  readsBack = λ a buffer payload n h some done. header-round-trip .whereDone a buffer payload n h some done .0;
+  readsBackInPlace = λ a buffer h more. header-round-trip .readsBack a buffer h (omega arith) .1 more;
   sparesTheRest = λ a buffer n done.
       let (count, left) = header-write-refusals .without a buffer (ap (λ (w : Written). w .refusal) done) in
       let many : length (header a) ≡ n = sym count ∙ ap (λ (w : Written). w .count) done in
@@ -322,7 +324,7 @@ headers = record {
   acceptsTheWritten = λ p a k are e. header-round-trip .writtenSo p a k are e .2;
   acceptsSo = λ p e.
       let so = header-read-refusals .without p e in
-      (so .os, so .payload, so .laid, (so .sized .0, so .sized .1, so .number, so .behind));
+      (so .os, so .payload, so .laid, (so .notEmpty, so .sized .0, so .sized .1, so .number, so .behind));
   takes = λ a. (refl, length-header a);
   oneToEight = λ a h. fewest-octets a h .allowed;
   holds = λ a h. fewest-octets a h .holds;
@@ -350,10 +352,10 @@ forms = record {
 
 -- ---- demand 3
 
--- a walk needs no packet, and the header of the second is one
+-- a walk needs no packet, and there is one for the second
 module _ (es : List Event) {a d : ℕ} (i : InTree a (treeOf es)) (j : InTree d (treeOf es)) where
-  arrives : Arrives packetHop (treeOf es) (header d ++ []) a d
-  arrives = demand-3 es .arrival a d (header d ++ []) i j (demand-3 es .packets d [] (sound-grown es .address d j) tt)
+  arrives : Arrives packetHop (treeOf es) (shortest d) a d
+  arrives = demand-3 es .arrival a d (shortest d) i j (packet-shortest (sound-grown es .address d j))
 
 -- hops are a length less one, and a walk has one node at least
 walk-some : {t : Tree} {a d : ℕ} {w : List ℕ} → Walk t a d w → 0 < length w
@@ -413,7 +415,7 @@ pub every-list : EveryList
 every-list = record {
   nodes = λ es. demand-3 es .nodes;
   allDiffer = λ es. demand-3 es .differ;
-  packets = demand-3 [] .packets;
+  packets = packets-exactly;
   arrives = λ es a d p i j packet. demand-3 es .arrival a d p i j packet .theWay;
   overLinks = λ es a d i j. arrives es i j .overLinks;
   noNodeTwice = λ es a d i j. arrives es i j .once;
@@ -428,6 +430,7 @@ every-list = record {
           theWay = stops .1 .theWay;
         },
       );
+  empty = λ es. demand-3 es .empty;
 }
 
 -- ---- paths and the line
@@ -515,11 +518,11 @@ pub values-of-three : ValuesOfThree
 unfolding header size octets reading startFault inOrder sizeTold addressFault zeroFault addressOctets value joined bitLength bits bitsIn
 values-of-three = record {
   headerOf111110 = refl;
-  read111110 = refl;
+  read111110 = λ o. refl;
   aZeroInFront = refl;
   twoZeros = refl;
   nothingBehind = refl;
-  read65536 = refl;
+  read65536 = λ o. refl;
   sizeOf65536 = refl;
 }
 

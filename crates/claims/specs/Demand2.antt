@@ -1,5 +1,5 @@
 -- Demand 2: "Every address we write as a header or as IPv6 reads back as itself, and every header or IPv6 form we accept is the one we would have
--- written."
+-- written."; of a header, since document 02 (Eight), with at least one payload octet behind it.
 use Prim.Native.Nat.{ℕ, suc, _+_, _*_, _-_, _/_, _%_, _^_, _≤_, _<_}
 use mathlib.Core.Path.{_≡_}
 use mathlib.Core.Logic.{_↔_}
@@ -29,21 +29,25 @@ pub record Headers : Type 0 where
   -- in every buffer that has room the header is written, and nothing else
   pub written : (a : ℕ) (buffer : List ℕ) → IsAddress a → place a ≤ length buffer
       → (writing a buffer .answer ≡ wrote (place a)) × (writing a buffer .buffer ≡ header a ++ drop (place a) buffer)
-  -- in every buffer, with any payload behind it: wherever the writer is done, with n octets, what stands there reads as the address at place n
-  pub readsBack : (a : ℕ) (buffer payload : List ℕ) (n : ℕ) → a < 2 ^ 64 → writing a buffer .answer ≡ wrote n
+  -- in every buffer, with any payload of at least one octet behind it: wherever the writer is done, with n octets, what stands there reads as the
+  -- address at place n
+  pub readsBack : (a : ℕ) (buffer payload : List ℕ) (n : ℕ) → a < 2 ^ 64 → 0 < length payload → writing a buffer .answer ≡ wrote n
       → reading (writing a buffer .buffer ++ payload) ≡ found a n
+  -- so does a buffer that has an octet more than the header, as it then stands
+  pub readsBackInPlace : (a : ℕ) (buffer : List ℕ) → IsAddress a → place a < length buffer
+      → reading (writing a buffer .buffer) ≡ found a (place a)
   -- and behind n the buffer is as it was
   pub sparesTheRest : (a : ℕ) (buffer : List ℕ) (n : ℕ) → writing a buffer .answer ≡ wrote n → drop n (writing a buffer .buffer) ≡ drop n buffer
-  -- whatever is read is an address, its place within the octets; and up to the place these are what we write into any buffer that has room for
-  -- them
-  pub acceptsAddresses : (p : List ℕ) (a k : ℕ) → AreOctets p → reading p ≡ found a k → IsAddress a × (k ≤ length p)
+  -- whatever is read is an address, its place below the packet's length; and up to the place the octets are what we write into any buffer that has
+  -- room for them
+  pub acceptsAddresses : (p : List ℕ) (a k : ℕ) → AreOctets p → reading p ≡ found a k → IsAddress a × (k < length p)
   pub acceptsTheWritten : (p : List ℕ) (a k : ℕ) → AreOctets p → reading p ≡ found a k → (buffer : List ℕ) → k ≤ length buffer
       → (writing a buffer .answer ≡ wrote k) × (take k (writing a buffer .buffer) ≡ take k p)
-  -- whatever is accepted is laid out as a header, with any payload behind it: the address is the number of its octets, 1 to 8 of them, and the
-  -- place is behind them
+  -- whatever is accepted is laid out as a header, with a payload of at least one octet behind it: the address is the number of its octets, 1 to 8 of
+  -- them, and the place is behind them
   pub acceptsSo : (p : List ℕ) → reading p .refusal ≡ 0
       → (os : List ℕ) × (payload : List ℕ) × (p ≡ 0xF1 ∷ (128 + (length os - 1)) ∷ 15 ∷ (os ++ payload))
-      × ((1 ≤ length os) × (length os ≤ 8) × (reading p .address ≡ value os) × (reading p .place ≡ 3 + length os))
+      × ((0 < length payload) × (1 ≤ length os) × (length os ≤ 8) × (reading p .address ≡ value os) × (reading p .place ≡ 3 + length os))
   -- "most significant octet first"
   pub mostSignificantFirst : (o : ℕ) (os : List ℕ) → value (o ∷ os) ≡ o * 256 ^ length os + value os
   pub valueOfNone : value [] ≡ 0

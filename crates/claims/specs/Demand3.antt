@@ -1,8 +1,10 @@
 -- Demand 3, sentence by sentence: "Take every list of requests for a child, refused ones included, from a bare root, each node going on from the
 -- record it was last given back, none removed."; and, of document 02 (Five), "its list may now also hold settings of a limit, refused ones included,
--- anywhere in it". `es` is such a list, and `treeOf es` the tree after it, with the records as they then stand.
-use Prim.Native.Nat.{ℕ, _+_, _≤_}
+-- anywhere in it". `es` is such a list, and `treeOf es` the tree after it, with the records as they then stand. Since Eight it "speaks of packets with
+-- at least one payload octet; an empty one stops with 16 where it starts."
+use Prim.Native.Nat.{ℕ, _+_, _≤_, _<_}
 use mathlib.Core.Path.{_≡_}
+use mathlib.Core.Logic.{_↔_}
 use mathlib.Core.List.{List, [], _∷_, _++_, map}
 use lib.ListN.{length}
 use Rattle.address.specs.Bits.{root}
@@ -86,8 +88,10 @@ pub record EveryList : Type 0 where
   pub nodes : (es : List Event) → addresses (treeOf es) ≡ root ∷ givenIn childOf setLimit es
   -- "After it all addresses given differ, the root's among them."
   pub allDiffer : (es : List Event) → AllDiffer (root ∷ givenIn childOf setLimit es)
-  -- "every address's header, as written below, with any payload behind it, is one [a packet]"
-  pub packets : (d : ℕ) (payload : List ℕ) → IsAddress d → AreOctets payload → IsPacket (header d ++ payload) d
+  -- "A packet is here any octets that the reading accepts, and it is for the address read; every address's header, as written below, with any payload
+  -- behind it, is one": of at least one octet, and there are no others
+  pub packets : (p : List ℕ) (d : ℕ)
+      → IsPacket p d ↔ (IsAddress d × ((payload : List ℕ) × AreOctets payload × (0 < length payload) × (p ≡ header d ++ payload)))
   -- "Take any two nodes of that tree, or the same one twice .. a packet for the second's address, started at the first and passed on by our rule,
   -- is delivered at the second. The nodes it meets are, in order, document 01's path from the first to the second.", and the delivery names the
   -- second
@@ -103,3 +107,6 @@ pub record EveryList : Type 0 where
   -- "A packet started at any node, for an address not in that tree, stops with refusal 7 at the address's deepest ancestor that is in it."
   pub absent : (es : List Event) (a d : ℕ) (p : List ℕ) → InTree a (treeOf es) → (InTree d (treeOf es) → ⊥) → IsPacket p d
       → (x : ℕ) × StopsAtDeepest es p a d x
+  -- "an empty one stops with 16 where it starts": a header and no more, for an address in the tree or not, and it has no other way
+  pub empty : (es : List Event) (a d : ℕ) → InTree a (treeOf es) → IsAddress d
+      → TheWay packetHop (treeOf es) (header d) a (a ∷ []) (stoppedAt 16 a)

@@ -43,18 +43,18 @@ pub record KnownRows : Type 0 where
   -- fourteen sentences carry a P, and one of them has two answers
   pub fifteen : length table ≡ 15
 
--- the values that document 02 names in Three
+-- the values that document 02 names in Three; and of Eight "Accepted header cases .. get one payload octet more; refused ones stand"
 pub record ValuesOfThree : Type 0 where
   -- "Address 111110 is F1 80 0F 3E."
   pub headerOf111110 : header 0b111110 ≡ 0xF1 ∷ 0x80 ∷ 0x0F ∷ 0x3E ∷ []
-  pub read111110 : reading (0xF1 ∷ 0x80 ∷ 0x0F ∷ 0x3E ∷ []) ≡ found 0b111110 4
+  pub read111110 : (o : ℕ) → reading (0xF1 ∷ 0x80 ∷ 0x0F ∷ 0x3E ∷ o ∷ []) ≡ found 0b111110 4
   -- "F1 81 0F 00 3E and F1 81 0F 00 00 are now 6"
   pub aZeroInFront : reading (0xF1 ∷ 0x81 ∷ 0x0F ∷ 0x00 ∷ 0x3E ∷ []) ≡ refusedHeader 6
   pub twoZeros : reading (0xF1 ∷ 0x81 ∷ 0x0F ∷ 0x00 ∷ 0x00 ∷ []) ≡ refusedHeader 6
   -- "F1 82 0F with nothing behind it is now 4"
   pub nothingBehind : reading (0xF1 ∷ 0x82 ∷ 0x0F ∷ []) ≡ refusedHeader 4
   -- "F1 82 0F 01 00 00 is now address 65,536, which takes 3 octets"
-  pub read65536 : reading (0xF1 ∷ 0x82 ∷ 0x0F ∷ 0x01 ∷ 0x00 ∷ 0x00 ∷ []) ≡ found 65536 6
+  pub read65536 : (o : ℕ) → reading (0xF1 ∷ 0x82 ∷ 0x0F ∷ 0x01 ∷ 0x00 ∷ 0x00 ∷ o ∷ []) ≡ found 65536 6
   pub sizeOf65536 : size 65536 ≡ 3
 
 -- the claims that exclude wrong rules hold of ours, whole; that of a setting stands with it (Limits)

@@ -32,3 +32,5 @@ pub mod Limits
 pub mod Larger
 -- request Seven: the older fields of NSA, both ways
 pub mod Nsa
+-- request Eight: no empty packets
+pub mod Empty

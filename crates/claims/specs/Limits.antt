@@ -6,6 +6,7 @@ use mathlib.Core.Path.{_≡_}
 use mathlib.Core.Bool.{true}
 use mathlib.Core.Logic.{_⊎_, _↔_}
 use mathlib.Core.List.{List, [], _∷_, _++_}
+use lib.ListN.{length}
 use Rattle.address.specs.Order.{done, _when_otherwise_, GivenExactly}
 use Rattle.address.specs.Bits.{root}
 use Rattle.address.specs.Address.{bitLength}
@@ -25,7 +26,7 @@ use Rattle.node.specs.WrongRules.{setsNothing, setsBelow, setsAbove, setsCut, s
 use Rattle.forward.specs.Forward.{refusedHop, nextHop}
 use Rattle.packet.specs.Packet.{packetHop}
 use Rattle.tree.specs.Tree.{ChildRule, SettingRule, request, Event, asking, setting, replied, limited, grow, grown, givenIn, addresses, InTree, AllDiffer}
-use Rattle.tree.specs.Way.{HopRule, IsPacket}
+use Rattle.tree.specs.Way.{HopRule, IsPacket, TheWay, stoppedAt}
 use Rattle.tree.specs.Demand3.{Arrives, StopsAt, Demand3}
 use Rattle.tree.specs.WrongSettings.{zeroesCounts, raisesCount, anotherNode, belowCount}
 use Rattle.pasa.specs.declared.children.PasaNode.{PasaNode}
@@ -81,13 +82,14 @@ pub record OfAnyRules : Type 0 where
   -- `Arrives` and `StopsAt` have the clauses of `EveryList` (Demand3) at any rules
   pub demand3 : (child : ChildRule) (set : SettingRule) (hop : HopRule) (es : List Event)
       → Demand3 child set hop es
-      ↔ (((d : ℕ) (payload : List ℕ) → IsAddress d → AreOctets payload → IsPacket (header d ++ payload) d)
+      ↔ (((d : ℕ) (payload : List ℕ) → IsAddress d → AreOctets payload → 0 < length payload → IsPacket (header d ++ payload) d)
       × (addresses (grown child set es) ≡ root ∷ givenIn child set es)
       × AllDiffer (root ∷ givenIn child set es)
       × ((a d : ℕ) (p : List ℕ) → InTree a (grown child set es) → InTree d (grown child set es) → IsPacket p d
       → Arrives hop (grown child set es) p a d)
       × ((a d : ℕ) (p : List ℕ) → InTree a (grown child set es) → (InTree d (grown child set es) → ⊥) → IsPacket p d
-      → (x : ℕ) × StopsAt hop (grown child set es) p a d x))
+      → (x : ℕ) × StopsAt hop (grown child set es) p a d x)
+      × ((a d : ℕ) → InTree a (grown child set es) → IsAddress d → TheWay hop (grown child set es) (header d) a (a ∷ []) (stoppedAt 16 a)))
 
 -- what document 01 says of a record without limits
 abbrev pub FitsDocument01 : Node → Type 0
