@@ -9,7 +9,7 @@ use native.Mathlib.Omega.{arith}
 use native.Mathlib.Numerals.{add-one}
 use borrow.Author.Tests.{eq-eqb, ne-eqb}
 use lib.Dec.{lit≤}
-use lib.ListN.{length, drop}
+use lib.ListN.{length, drop, length-append}
 use lib.Seq.{drop-at}
 use Rattle.address.specs.Bits.{Bit, O, I, lastBit, bitsIn, bits, digit, numberFrom, number}
 use Rattle.address.specs.declared.Kind.{Kind}
@@ -26,7 +26,7 @@ use Rattle.address.proofs.KindLaws.{kinds}
 use Rattle.address.proofs.RefusalLaws.{address-refusals}
 use Rattle.address.proofs.Promises.{one-made, of-promise, of-asks-nothing, new-promise, new-asks-nothing, bit-length-promise, bit-length-asks-nothing, is-host-promise, is-host-asks-nothing, depth-promise, depth-asks-nothing, parent-promise, parent-asks-nothing}
 use Rattle.address.specs.Kinds.{IsRoot, IsRouter, IsHost}
-use Rattle.octets.specs.Octets.{octets, joined, value, same}
+use Rattle.octets.specs.Octets.{octets, value, same}
 use Rattle.octets.specs.declared.Written.{Written}
 use Rattle.octets.proofs.Correspondence.{octets-one-to-one, value-zeros, same-exactly}
 use Rattle.octets.proofs.Promises.{put-asks-nothing, get-promise, get-asks-nothing}
@@ -35,7 +35,8 @@ use Rattle.search.proofs.Words.{search-words}
 use Rattle.search.proofs.SearchLaws.{childEnd-past}
 use Rattle.search.proofs.Ones.{childEnd-leading}
 use Rattle.search.proofs.Promises.{child-end-promise, child-end-asks-nothing, child-end-by-bits-promise, child-end-by-bits-asks-nothing, same-child-end, first-bits-promise, first-bits-asks-nothing}
-use Rattle.header.specs.Header.{headerAnswer, size, place, header, reading, startFault, inOrder, sizeTold, addressOctets, zeroFault, addressFault}
+use Rattle.header.specs.Header.{headerAnswer, size, place, header, reading}
+use Rattle.header.proofs.Opened.{reading-opened}
 use Rattle.header.proofs.Size.{fewest-octets}
 use Rattle.header.proofs.Writing.{length-header}
 use Rattle.header.proofs.Demand2.{header-round-trip, wrote-header}
@@ -324,7 +325,8 @@ headers = record {
   acceptsTheWritten = λ p a k are e. header-round-trip .writtenSo p a k are e .2;
   acceptsSo = λ p e.
       let so = header-read-refusals .without p e in
-      (so .os, so .payload, so .laid, (so .notEmpty, so .sized .0, so .sized .1, so .number, so .behind));
+      let some : 0 < length (so .0 .payload) = omega (arith, so .1, so .0 .behind, ap length (so .0 .laid), length-append (so .0 .os) (so .0 .payload)) in
+      (so .0 .os, so .0 .payload, so .0 .laid, (some, so .0 .sized .0, so .0 .sized .1, so .0 .number, so .0 .behind));
   takes = λ a. (refl, length-header a);
   oneToEight = λ a h. fewest-octets a h .allowed;
   holds = λ a h. fewest-octets a h .holds;
@@ -515,7 +517,7 @@ unfolding table
 known-rows = record { everyRowHolds = known-values; fifteen = refl }
 
 pub values-of-three : ValuesOfThree
-unfolding header size octets reading startFault inOrder sizeTold addressFault zeroFault addressOctets value joined bitLength bits bitsIn
+unfolding header size octets reading-opened bitLength bits bitsIn
 values-of-three = record {
   headerOf111110 = refl;
   read111110 = λ o. refl;

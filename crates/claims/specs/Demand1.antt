@@ -38,11 +38,10 @@ pub record Orders : Type 1 where
 
 -- "Reading: the first three octets are checked in order; one that is absent is 4, one that is wrong is 5 (of the second only its top three
 -- bits)." "Then a missing address octet is 4." And, of document 02 (Three), "Document 01's size rule becomes '1 to 8', refusal 6 means a size
--- above 8 or a first octet of zero where there are several, and 9 means a single zero octet." And, of Eight, "A packet whose payload is empty is refused
--- with 16, after every other header check": no octet stands behind the address's. The second octet is 128, the bits 10000000, more than the size less
--- one.
-abbrev pub headerOrder : List ℕ → Order
-headerOrder p =
+-- above 8 or a first octet of zero where there are several, and 9 means a single zero octet." The second octet is 128, the bits 10000000, more
+-- than the size less one.
+abbrev pub octetsOrder : List ℕ → Order
+octetsOrder p =
     4 when length p ≤ 0
     otherwise 5 when (getD p 0 0 ≡ 0xF1 → ⊥)
     otherwise 4 when length p ≤ 1
@@ -53,8 +52,11 @@ headerOrder p =
     otherwise 4 when length p < 3 + ((getD p 1 0 - 128) + 1)
     otherwise 9 when (((getD p 1 0 - 128) + 1 ≡ 1) × (getD p 3 0 ≡ 0))
     otherwise 6 when ((1 < (getD p 1 0 - 128) + 1) × (getD p 3 0 ≡ 0))
-    otherwise 16 when length p ≤ 3 + ((getD p 1 0 - 128) + 1)
     otherwise done
+
+-- and, of Eight, "A packet whose payload is empty is refused with 16, after every other header check": no octet stands behind the address's
+abbrev pub headerOrder : List ℕ → Order
+headerOrder p = octetsOrder p then (16 when length p ≤ 3 + ((getD p 1 0 - 128) + 1) otherwise done)
 
 -- request One, "Here and below, new refusals, conditions and orders join those of document 01": "Text over [32,768] bytes: 14. Then a text outside
 -- the grammar (a 65th open group counts): 13 .. Then over [4,096] nodes, the root counted: 14. Then an address too long: 3. Then no room: 10."

@@ -1,6 +1,6 @@
--- Demand 2 for the header. A header with a payload reads as its address, since its size is allowed, its octets give the number and the fewest octets
--- leave no zero in front (`reading-header`), and alone it is 16 (`reading-alone`); and octets that are read, or are 16, were checked octet by octet
--- for what a header has (`header-read`, `alone-read`). Assumes nothing.
+-- Demand 2 for the header. A header's octets read as its address, since its size is allowed, its octets give the number and the fewest octets leave
+-- no zero in front (`octetsReading-header`), and with a payload behind them so does the packet (`reading-header`); octets that are read, with a payload
+-- or without, were checked octet by octet for what a header has (`octets-read`). Assumes nothing.
 use mathlib.Core.Path.{_≡_, refl, sym, ap, ap₂, _∙_, subst}
 use mathlib.Core.List.{List, [], _∷_, _++_, append-assoc, append-nil}
 use mathlib.Core.Logic.{_↔_, inl, inr}
@@ -17,12 +17,13 @@ use Rattle.address.specs.Bits.{longest}
 use Rattle.address.specs.Numbers.{IsAddress}
 use Rattle.octets.specs.Octets.{octets, value, AreOctets, WriteEffect, write, wrote}
 use Rattle.octets.proofs.OctetLaws.{length-octets, value-octets-of-lt, octets-octets, octets-value, value-lt, value-fits}
-use Rattle.header.specs.Header.{header, place, size, fixedOctets, pageOctet, criticalPattern, routingType, mostOctets, writing, HeaderAnswer, reading, found, refusedHeader, startFault, inOrder, sizeTold, addressFault, zeroFault, addressOctets}
+use Rattle.header.specs.Header.{header, place, size, fixedOctets, pageOctet, criticalPattern, routingType, mostOctets, writing, HeaderAnswer, octetsReading, reading, found, refusedHeader, startFault, inOrder, sizeTold, addressFault, zeroFault, addressOctets}
 use Rattle.header.specs.RoundTrip.{HeaderRoundTrip}
 use Rattle.header.proofs.Size.{size-le, size-ge, size-exact, size-least, fewest-octets}
 use Rattle.header.proofs.Start.{startFault-zero}
 use Rattle.header.proofs.Parts.{length-addressOctets, octets-addressOctets, first-addressOctets, lt-of-first, ge-of-first, zeroFault-some, zeroFault-zero, addressFault-zero}
-use Rattle.header.proofs.Cases.{reading-empty, reading-found, reading-inverse, reading-sixteen}
+use Rattle.header.proofs.Cases.{octetsReading-found, octetsReading-inverse}
+use Rattle.header.proofs.Payload.{reading-empty, reading-found, reading-inverse, reading-sixteen}
 use Rattle.header.specs.Refusals.{writingOrder}
 use Rattle.header.proofs.RefusalLaws.{header-write-refusals}
 use Rattle.header.proofs.Writing.{length-header, writing-done}
@@ -67,27 +68,14 @@ module _ {a : ℕ} (n : IsAddress a) (rest : List ℕ) where
       rw (le-ltb mostOctets (size a) (size-le (n .fits)), le-ltb (length (header a ++ rest)) (fixedOctets + size a) long)
       (zeroFault-some (size a) (getD (header a ++ rest) fixedOctets 0) header-first)
 
-  -- no check of the octets finds a fault
-  header-whole : addressFault (sizeTold (header a ++ rest)) (header a ++ rest) ≡ 0
-  header-whole = ap (λ (s : ℕ). addressFault s (header a ++ rest)) header-size ∙ header-fault
-
-  header-end : length (header a ++ rest) ≡ fixedOctets + sizeTold (header a ++ rest) + length rest
+  pub octetsReading-header : octetsReading (header a ++ rest) ≡ found a (place a)
   unfolding place
-  header-end = omega (arith, length-append (header a) rest, length-header a, header-size)
-
-  pub reading-header : 0 < length rest → reading (header a ++ rest) ≡ found a (place a)
-  unfolding place
-  reading-header some =
+  octetsReading-header =
       let p = header a ++ rest in
-      reading-found p header-start header-whole (omega (arith, header-end))
+      octetsReading-found p header-start (ap (λ (s : ℕ). addressFault s p) header-size ∙ header-fault)
       ∙ ap (λ (s : ℕ). found (value (addressOctets s p)) (fixedOctets + s)) header-size
       ∙ ap (λ (os : List ℕ). found (value os) (fixedOctets + size a)) header-octets
       ∙ ap (λ (v : ℕ). found v (fixedOctets + size a)) header-number
-
-pub reading-alone : {a : ℕ} → IsAddress a → reading (header a) ≡ refusedHeader 16
-reading-alone {a} n =
-    ap reading (sym (append-nil (header a)))
-    ∙ reading-empty (header a ++ []) (header-start n []) (header-whole n []) (omega (arith, header-end n []))
 
 -- ---- what is read is what would have been written
 
@@ -141,32 +129,45 @@ module _ (p : List ℕ) (all : AreOctets p) (begun : startFault p ≡ 0) (whole 
       ∙ ap₂ (λ (x : ℕ) (l : List ℕ). pageOctet ∷ x ∷ routingType ∷ l) second (sym (octets-value os are) ∙ ap (λ (k : ℕ). octets k (value os)) many)
       ∙ ap (λ (k : ℕ). pageOctet ∷ (criticalPattern * 32 + (k - 1)) ∷ routingType ∷ octets k (value os)) (sym size-read)
 
-  as-read : (a k : ℕ) → value os ≡ a → fixedOctets + s ≡ k → IsAddress a × (k ≡ place a) × (take k p ≡ header a)
+  as-read : (a k : ℕ) → value os ≡ a → fixedOctets + s ≡ k → IsAddress a × (k ≤ length p) × (k ≡ place a) × (take k p ≡ header a)
   unfolding place
   as-read a k e f = (
     subst IsAddress e address-read,
+    subst (λ (n : ℕ). n ≤ length p) f (right .1),
     sym f ∙ ap (λ (n : ℕ). fixedOctets + n) (sym size-read ∙ ap size e),
     ap (λ (n : ℕ). take n p) (sym f) ∙ take-read ∙ ap header e,
   )
 
--- octets in which no check finds a fault, whatever is behind them
-pub octets-read : (p : List ℕ) (a k : ℕ) → AreOctets p → startFault p ≡ 0 → addressFault (sizeTold p) p ≡ 0
-    → value (addressOctets (sizeTold p) p) ≡ a → fixedOctets + sizeTold p ≡ k → IsAddress a × (k ≡ place a) × (take k p ≡ header a)
+-- whatever is behind them
+pub octets-read : (p : List ℕ) (a k : ℕ) → AreOctets p → octetsReading p ≡ found a k
+    → IsAddress a × (k ≤ length p) × (k ≡ place a) × (take k p ≡ header a)
 unfolding os s
-octets-read p a k all begun whole number end = as-read p all begun whole a k number end
+octets-read p a k all e = let (begun, whole, number, end) = octetsReading-inverse p a k e in as-read p all begun whole a k number end
+
+-- ---- and by the payload
+
+module _ {a : ℕ} (n : IsAddress a) where
+  pub reading-header : (rest : List ℕ) → 0 < length rest → reading (header a ++ rest) ≡ found a (place a)
+  reading-header rest some =
+      reading-found (header a ++ rest) (octetsReading-header n rest) (omega (arith, length-append (header a) rest, length-header a))
+
+  pub octetsReading-alone : octetsReading (header a) ≡ found a (place a)
+  octetsReading-alone = ap octetsReading (sym (append-nil (header a))) ∙ octetsReading-header n []
+
+  pub reading-alone : reading (header a) ≡ refusedHeader 16
+  reading-alone = reading-empty (header a) octetsReading-alone (omega (arith, length-header a))
 
 pub header-read : (p : List ℕ) (a k : ℕ) → AreOctets p → reading p ≡ found a k → IsAddress a × (k < length p) × (k ≡ place a) × (take k p ≡ header a)
 header-read p a k all e =
-    let (begun, whole, some, number, end) = reading-inverse p a k e in
-    let (address, place-read, same) = octets-read p a k all begun whole number end in
-    (address, omega arith, place-read, same)
+    let (octets, some) = reading-inverse p a k e in
+    let (n, within, end, same) = octets-read p a k all octets in
+    (n, some, end, same)
 
 pub alone-read : (p : List ℕ) → AreOctets p → reading p .refusal ≡ 16 → (a : ℕ) × IsAddress a × (p ≡ header a)
-unfolding os s
 alone-read p all e =
-    let (begun, whole, short) = reading-sixteen p e in
-    let a = value (os p all begun whole) in
-    (a, address-read p all begun whole, sym (take-all (fixedOctets + sizeTold p) p short) ∙ take-read p all begun whole)
+    let (a, k, octets, short) = reading-sixteen p e in
+    let (n, within, end, same) = octets-read p a k all octets in
+    (a, n, sym (take-all k p short) ∙ same)
 
 -- 16 is the answer to a header and no more, and nothing else
 pub sixteen-exactly : (p : List ℕ) → AreOctets p → (reading p .refusal ≡ 16) ↔ ((a : ℕ) × IsAddress a × (p ≡ header a))

@@ -62,7 +62,7 @@ module _ (reader : HeaderReader) (claim : HeaderReadRefusals reader) (p : List �
   same-answer = go (ℕ-discrete (reading p .refusal) 0)
     where
       go : Dec (reading p .refusal ≡ 0) → (reader p .address ≡ reading p .address) × (reader p .place ≡ reading p .place)
-      go (yes h) = accepted-once (claim .without p (same-refusal ∙ h)) (header-read-refusals .without p h)
+      go (yes h) = accepted-once (claim .without p (same-refusal ∙ h) .0) (header-read-refusals .without p h .0)
       go (no h) =
           let mine = claim .beside p (λ z. h (sym same-refusal ∙ z)) in
           let ours = header-read-refusals .beside p h in

@@ -10,7 +10,7 @@ use Rattle.address.specs.declared.Address.{Address}
 use Rattle.octets.specs.declared.Written.{Written}
 use Rattle.header.specs.declared.Reading.{Reading}
 use Rattle.header.specs.Header.{writing, HeaderAnswer, Found, Refused, headerAnswer, reading}
-use Rattle.header.proofs.Cases.{reading-refused}
+use Rattle.header.proofs.Payload.{reading-refused}
 use Rattle.header.proofs.write.Reads as write-reads
 use Rattle.header.proofs.read.Reads as read-reads
 

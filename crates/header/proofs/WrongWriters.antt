@@ -12,17 +12,18 @@ use Rattle.address.specs.Bits.{bits, bitsIn}
 use Rattle.address.specs.Address.{bitLength}
 use Rattle.address.specs.Numbers.{IsAddress}
 use Rattle.octets.specs.Octets.{octets, WriteEffect, refuseWriting, write}
-use Rattle.header.specs.Header.{header, place, size, writing, reading, HeaderAnswer, startFault, inOrder}
+use Rattle.header.specs.Header.{header, place, size, writing, reading, HeaderAnswer}
 use Rattle.header.specs.RoundTrip.{HeaderReader, HeaderRoundTrip}
 use Rattle.header.specs.WrongWriters.{silentWriter, refusingWriter, roomlessWriter, spoilingWriter, paddingWriter, roomFirstWriter}
 use Rattle.header.specs.Refusals.{HeaderWriteRefusals}
+use Rattle.header.proofs.Opened.{reading-opened}
 use Rattle.header.proofs.OneRule.{one-writer}
 
 one : IsAddress 1
 one = record { some = lit< tt; fits = lit< tt }
 
 pub silent-writer-refuted : HeaderRoundTrip silentWriter reading → ⊥
-unfolding silentWriter reading startFault inOrder place size bitLength bits bitsIn
+unfolding silentWriter reading-opened place size bitLength bits bitsIn
 silent-writer-refuted claim = omega (arith, ap (λ (x : HeaderAnswer). x .refusal) (claim .readsBack 1 (replicate 5 0) one (lit≤ tt) .1 (lit< tt)))
 
 pub refusing-writer-refuted : HeaderRoundTrip refusingWriter reading → ⊥
@@ -30,7 +31,7 @@ unfolding refusingWriter refuseWriting place size bitLength bits bitsIn
 refusing-writer-refuted claim = omega (arith, ap (λ (w : Written). w .refusal) (claim .readsBack 1 (replicate 4 0) one (lit≤ tt) .0))
 
 pub roomless-writer-refuted : HeaderRoundTrip roomlessWriter reading → ⊥
-unfolding roomlessWriter write reading startFault inOrder place size bitLength bits bitsIn
+unfolding roomlessWriter write reading-opened place size bitLength bits bitsIn
 roomless-writer-refuted claim = omega (arith, ap (λ (x : HeaderAnswer). x .refusal) (claim .whereDone 1 [] (0 ∷ []) 4 (one .fits) (lit< tt) refl .0))
 
 pub spoiling-writer-refuted : HeaderRoundTrip spoilingWriter reading → ⊥

@@ -121,15 +121,23 @@ addressFault s p =
     else if ltb (length p) (fixedOctets + s) then 4
     else zeroFault s (getD p fixedOctets 0)
 
+-- what the header's own octets say, whatever is behind them: "The answer is the address and the place where the payload begins."
+unfoldable pub octetsReading : List ℕ → HeaderAnswer
+octetsReading p =
+    if not (eqb (startFault p) 0) then refusedHeader (startFault p)
+    else if not (eqb (addressFault (sizeTold p) p) 0) then refusedHeader (addressFault (sizeTold p) p)
+    else found (value (addressOctets (sizeTold p) p)) (fixedOctets + sizeTold p)
+
 -- the fewest octets of a payload: it isn't empty
 abbrev pub leastPayload : ℕ
 leastPayload = 1
 
--- "A packet whose payload is empty is refused with 16, after every other header check" (document 02, Eight). "The answer is the address and the
--- place where the payload begins."
+-- "A packet whose payload is empty is refused with 16, after every other header check" (document 02, Eight): an answer for a packet of so many octets
+unfoldable pub withPayload : ℕ → HeaderAnswer → HeaderAnswer
+withPayload octets r =
+    if not (eqb (r .refusal) 0) then r
+    else if ltb octets (r .place + leastPayload) then refusedHeader 16
+    else r
+
 unfoldable pub reading : List ℕ → HeaderAnswer
-reading p =
-    if not (eqb (startFault p) 0) then refusedHeader (startFault p)
-    else if not (eqb (addressFault (sizeTold p) p) 0) then refusedHeader (addressFault (sizeTold p) p)
-    else if ltb (length p) (fixedOctets + sizeTold p + leastPayload) then refusedHeader 16
-    else found (value (addressOctets (sizeTold p) p)) (fixedOctets + sizeTold p)
+reading p = withPayload (length p) (octetsReading p)

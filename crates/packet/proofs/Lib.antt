@@ -2,5 +2,6 @@
 pub mod PacketHops
 pub mod RefusalLaws
 pub mod OneRule
+pub mod Before
 pub mod WrongRules
 pub mod Promises

@@ -5,7 +5,7 @@ use mathlib.Core.List.{List}
 use Prim.Native.Nat.{ℕ}
 use borrow.Author.Tests.{eq-eqb, ne-eqb}
 use Rattle.header.specs.Header.{HeaderAnswer, reading, found, refusedHeader}
-use Rattle.header.proofs.Cases.{reading-refused}
+use Rattle.header.proofs.Payload.{reading-refused}
 use Rattle.node.specs.Node.{withLimits, isGood}
 use Rattle.node.specs.declared.Node.{Node}
 use Rattle.forward.specs.Forward.{refusedHop, nextHop}

@@ -5,6 +5,7 @@ use mathlib.Core.Bool.{Bool, true, false}
 use mathlib.Core.Logic.{inl, inr}
 use mathlib.Core.List.{List}
 use Prim.Native.Nat.{ℕ, zero, suc, _^_, _<_}
+use native.Mathlib.Decide.{ℕ-discrete}
 use native.Mathlib.Omega.{arith}
 use Rattle.address.specs.Bits.{longest}
 use Rattle.address.specs.Numbers.{IsAddress}
@@ -103,3 +104,23 @@ packet-refusals = record {
         read : (k : ℕ) → reading p .refusal ≡ k → (reading p .refusal ≡ 0) × (packetHop n p ≡ nextHop n (reading p .address))
         read zero z = (z, by-address n p g z)
         read (suc k) z = absurd (omega (arith, number (packetHop-refused n p g (refused-answer p k z))))
+
+-- ---- 16 is a good record's, and the reading's
+
+no-hop-sixteen : (n : Node) (d : ℕ) → First (hopOrder n d) 16 → ⊥
+no-hop-sixteen n d (inl (bad, e)) = omega arith
+no-hop-sixteen n d (inr (good, inl (zero-address, e))) = omega arith
+no-hop-sixteen n d (inr (good, inr (some, inl (absent, e)))) = omega arith
+no-hop-sixteen n d (inr (good, inr (some, inr (given, e)))) = omega arith
+
+pub sixteen-hop : (n : Node) (p : List ℕ) → addressIn n < 2 ^ longest → AreOctets p → packetHop n p .refusal ≡ 16
+    → (isGood n ≡ true) × (reading p .refusal ≡ 16)
+sixteen-hop n p f are e = go (isGood n) refl (ℕ-discrete (reading p .refusal) 0)
+  where
+    go : (t : Bool) → isGood n ≡ t → Dec (reading p .refusal ≡ 0) → (isGood n ≡ true) × (reading p .refusal ≡ 16)
+    go false g d = absurd (omega (arith, number (packetHop-bad n p g)))
+    go true g (no h) = (g, sym (by-reading n p g h) ∙ e)
+    go true g (yes z) =
+        let a = header-read p (reading p .address) (reading p .place) are (found-answer p z) .0 in
+        let sixteen = sym (number (by-address n p g z)) ∙ e in
+        absurd (no-hop-sixteen n (reading p .address) (hop-refusals .given n (reading p .address) f (a .fits) 16 .0 sixteen))

@@ -1,15 +1,14 @@
 -- The wrong rules for a child are refuted, each through the clause for which document 01 excludes it, at a tree that is computed.
 use Prim.Native.Nat.{ℕ, zero, suc, _+_, _≤_}
-use mathlib.Core.Path.{_≡_, refl, ap, _∙_, subst}
+use mathlib.Core.Path.{_≡_, refl, ap, _∙_}
 use mathlib.Core.Bool.{false}
-use mathlib.Core.List.{List, [], _∷_, _++_, append-nil, List·Memᴰ, List·Memᴰ·head, List·Memᴰ·tail}
+use mathlib.Core.List.{List, [], _∷_, _++_, List·Memᴰ, List·Memᴰ·head, List·Memᴰ·tail}
 use native.Mathlib.Nat.{add-zero}
 use native.Mathlib.Omega.{arith}
 use lib.ListN.{replicate}
 use lib.Dec.{lit<}
 use borrow.Author.Tests.{le-leb, ne-eqb}
 use Rattle.address.specs.Bits.{number, root}
-use Rattle.address.specs.Numbers.{IsAddress}
 use Rattle.address.specs.declared.Kind.the-variants.{Router, Host}
 use Rattle.node.specs.Node.{fresh, withCounts, withLimits, isGood, childBits, setLimit}
 use Rattle.node.specs.declared.Node.{Node}

@@ -3,7 +3,7 @@
 use mathlib.Core.Path.{_≡_, refl, ap, _∙_}
 use mathlib.Core.Bool.{true}
 use mathlib.Core.Logic.{⊎-elim}
-use mathlib.Core.List.{List, [], _∷_, _++_, List·Memᴰ, List·Memᴰ·not-nil, List·Memᴰ·cases-cons, List·Memᴰ·head as first, List·Memᴰ·tail as later}
+use mathlib.Core.List.{List, [], _∷_, List·Memᴰ, List·Memᴰ·not-nil, List·Memᴰ·cases-cons, List·Memᴰ·head as first, List·Memᴰ·tail as later}
 use Prim.Native.Nat.{ℕ, suc, _<_}
 use native.Mathlib.Omega.{arith}
 use borrow.Author.Tests.{eq-eqb}
@@ -12,7 +12,7 @@ use Rattle.address.specs.declared.Kind.the-variants.{Router as router, Host as 
 use Rattle.address.specs.Steps.{steps, stepsOf, cut, lastStep, addressOf, spelled}
 use Rattle.address.specs.Address.{above, parent}
 use Rattle.address.specs.Numbers.{IsAddress}
-use Rattle.header.specs.Header.{header, reading, HeaderAnswer}
+use Rattle.header.specs.Header.{reading, HeaderAnswer}
 use Rattle.header.proofs.Demand2.{reading-header}
 use Rattle.node.specs.declared.Node.{Node}
 use Rattle.node.specs.Node.{fresh, raised, isGood, childOf, setLimit}

@@ -9,7 +9,8 @@ use Rattle.octets.proofs.OctetLaws.{all-octets, value-mod}
 use Rattle.header.specs.Header.{headerAnswer, found, startFault, sizeTold, addressFault, addressOctets}
 use Rattle.header.proofs.Start.{startFault-length}
 use Rattle.header.proofs.Parts.{length-addressOctets, part-addressOctets, octets-addressOctets, addressFault-zero}
-use Rattle.header.proofs.Cases.{reading-start, reading-address, reading-empty, reading-found}
+use Rattle.header.proofs.Cases.{octetsReading-start, octetsReading-address, octetsReading-found}
+use Rattle.header.proofs.Payload.{reading-unread, reading-empty, reading-found}
 use borrow.Author.Needs.{needs}
 use Rattle.header.proofs.read.Statement.{statement}
 use Rattle.header.proofs.read.Tie as tie
@@ -33,7 +34,9 @@ start-fault-requires c κs = search needs
 
 returns : tie.Need-returns
 unfolding headerAnswer
-returns c = reading-start (c .before .before .before .args .packet .now) (c .before .start-fault .ensures) (c .if1 .taken)
+returns c =
+    let p = c .before .before .before .args .packet .now in
+    sym (reading-unread p (sym (octetsReading-start p (c .before .start-fault .ensures) (c .if1 .taken))) (c .if1 .taken))
 
 shared-slice-read-size : tie.Need-shared-slice-read-size
 shared-slice-read-size c = omega (arith, startFault-length (c .before .before .before .before .args .packet .now) (start-right (c .before)))
@@ -49,7 +52,10 @@ address-fault-requires c κs = search needs
 
 returns-2 : tie.Need-returns-2
 unfolding headerAnswer sizeTold
-returns-2 c = reading-address (c .before .before .before .before .before .before .args .packet .now) (start-right (c .before .before .before)) (c .before .address-fault .ensures) (c .if2 .taken)
+returns-2 c =
+    let p = c .before .before .before .before .before .before .args .packet .now in
+    let fault = octetsReading-address p (start-right (c .before .before .before)) (c .before .address-fault .ensures) (c .if2 .taken) in
+    sym (reading-unread p (sym fault) (c .if2 .taken))
 
 add-end : tie.Need-add-end
 add-end c = search needs
@@ -63,7 +69,7 @@ returns-3 c =
     let at = c .before in
     let p = at .before .before .before .before .before .before .args .packet .now in
     let h : length p ≤ 3 + sizeTold p = omega (arith, c .if3 .taken) in
-    sym (reading-empty p (start-right (at .before .before .before)) (address-right at) h)
+    sym (reading-empty p (octetsReading-found p (start-right (at .before .before .before)) (address-right at)) h)
 
 sub-get : tie.Need-sub-get
 sub-get c = search needs
@@ -96,7 +102,8 @@ returns-4 c =
     (octets-addressOctets (sizeTold p) p (all-octets p (λ i. omega (arith, at .before .before .shared-slice-known2 .given i))))
     (omega (arith, length-addressOctets (sizeTold p) p (right .1), right .0)) in
     let some : 3 + sizeTold p < length p = omega (arith, behind .if3 .left) in
-    ap (λ (a : ℕ). found a (3 + sizeTold p)) number ∙ sym (reading-found p (start-right (at .before .before .before)) (address-right at) some)
+    ap (λ (a : ℕ). found a (3 + sizeTold p)) number
+    ∙ sym (reading-found p (octetsReading-found p (start-right (at .before .before .before)) (address-right at)) some)
 
 pub read-spec : {M : Type 1} → statement M
 read-spec =
