@@ -68,6 +68,7 @@ enum pasa_refusal {
     PASA_BAD_PLAN = 13,       /* a plan's text is outside the grammar */
     PASA_TOO_MANY = 14,       /* a plan has too many bytes, a plan or a journal too many nodes, or an NSA payload length is above 65,787 */
     PASA_AT_LIMIT = 15,       /* a node is asked for a child at its limit */
+    PASA_EMPTY = 16,          /* the payload is empty */
     PASA_BAD_JOURNAL = 17     /* a journal's slot is out of place or no right block, or an address in it is no next child */
 };
 
@@ -125,7 +126,7 @@ struct pasa_written {
     uint8_t refusal;
 };
 
-/* A header reader's answer: the address, and the place where the payload begins. */
+/* A header reader's answer: the address, and the place where the payload begins, at which the packet has an octet. */
 struct pasa_read {
     uint64_t address;
     size_t place;
@@ -308,6 +309,8 @@ static inline const char *pasa_refusal_text(uint8_t refusal)
         return "a plan has too many bytes, a plan or a journal too many nodes, or an NSA payload length is above 65,787";
     case PASA_AT_LIMIT:
         return "a node is asked for a child at its limit";
+    case PASA_EMPTY:
+        return "the payload is empty";
     case PASA_BAD_JOURNAL:
         return "a journal's slot is out of place or no right block, or an address in it is no next child";
     default:
@@ -348,7 +351,8 @@ struct pasa_limited pasa_limit_hosts(struct pasa_node node, uint64_t limit);
 /* The next hop at this node for a packet to the destination. Refusals: 1, 9, 7. */
 struct pasa_hop pasa_next_hop(struct pasa_node node, uint64_t destination);
 
-/* The next hop at this node for a packet, whose destination is the address in its header. Refusals: 1, then a reader's, then 7. */
+/* The next hop at this node for a packet, whose destination is the address in its header. Refusals: 1, then a reader's, which are 4, 5, 6, 9 and
+ * last 16, then 7. What pasa_header_write wrote, alone, is refused with 16 also at the node that it is for. */
 struct pasa_hop pasa_packet_next_hop(struct pasa_node node, const uint8_t *packet, size_t packet_length);
 
 /* The next hops at this node for many destinations: for each what pasa_next_hop answers, its three numbers at the same index of the three
@@ -357,10 +361,12 @@ struct pasa_hop pasa_packet_next_hop(struct pasa_node node, const uint8_t *packe
 size_t pasa_next_hops(struct pasa_node node, const uint64_t *destinations, size_t destinations_length, uint64_t *nodes, size_t nodes_length,
                       uint8_t *actions, size_t actions_length, uint8_t *refusals, size_t refusals_length);
 
-/* Writes the address's header, 4 to 11 octets, to the front of the buffer. Refusals: 9, 10. */
+/* Writes the address's header, 4 to 11 octets, to the front of the buffer. It writes no payload: the header alone is refused with 16 where it is
+ * read as a packet. Refusals: 9, 10. */
 struct pasa_written pasa_header_write(uint64_t address, uint8_t *out, size_t out_length);
 
-/* Reads the header at the front of a packet. Refusals: 4, 5, 6, 9, in the specification's order of reading. */
+/* Reads the header at the front of a packet. Refusals: 4, 5, 6, 9, in the specification's order of reading, and behind all of them 16 where the
+ * payload is empty: what pasa_header_write wrote, alone, is refused with 16, and reads back with any octet behind it. */
 struct pasa_read pasa_header_read(const uint8_t *packet, size_t packet_length);
 
 /* Writes the prefix, 8 octets, and the address behind it, 16 octets together, to the front of the buffer. Refusals: 12, 9, 10. */

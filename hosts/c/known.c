@@ -94,15 +94,20 @@ static void same_limited(const char *what, struct pasa_limited got, struct pasa_
     same_node(what, got.node, node);
 }
 
-static void same_hop(const char *what, struct pasa_hop got, const char *node, uint8_t action, uint8_t refusal)
+static void same_hop_to(const char *what, struct pasa_hop got, uint64_t node, uint8_t action, uint8_t refusal)
 {
-    char part[96];
+    char part[128];
     snprintf(part, sizeof part, "%s: the node", what);
-    same(part, got.node, bits(node));
+    same(part, got.node, node);
     snprintf(part, sizeof part, "%s: the action", what);
     same(part, got.action, action);
     snprintf(part, sizeof part, "%s: the refusal", what);
     same(part, got.refusal, refusal);
+}
+
+static void same_hop(const char *what, struct pasa_hop got, const char *node, uint8_t action, uint8_t refusal)
+{
+    same_hop_to(what, got, bits(node), action, refusal);
 }
 
 static void address_as(const char *digits, const char *parent, uint32_t depth, uint8_t is_host)
@@ -168,9 +173,11 @@ static void refusal_texts(void)
               "a plan has too many bytes, a plan or a journal too many nodes, or an NSA payload length is above 65,787");
     same_text("refusal 15", pasa_refusal_text(PASA_AT_LIMIT), "a node is asked for a child at its limit");
     same("the number at a limit", PASA_AT_LIMIT, 15);
-    same_text("refusal 16", pasa_refusal_text(16), "a refusal that this header doesn't know");
+    same_text("refusal 16", pasa_refusal_text(PASA_EMPTY), "the payload is empty");
+    same("the number of an empty payload", PASA_EMPTY, 16);
     same_text("refusal 17", pasa_refusal_text(PASA_BAD_JOURNAL),
               "a journal's slot is out of place or no right block, or an address in it is no next child");
+    same_text("refusal 18", pasa_refusal_text(18), "a refusal that this header doesn't know");
     same_text("refusal 255", pasa_refusal_text(255), "a refusal that this header doesn't know");
 }
 
@@ -242,10 +249,12 @@ static void bad_by_limits(const char *what, struct pasa_node node)
     uint64_t nodes[1] = {90};
     uint8_t actions[1] = {80}, refusals[1] = {70};
     const uint64_t destination = PASA_ROOT;
+    const uint8_t empty[4] = {0xF1, 0x80, 0x0F, 0x01};
     same_child(what, pasa_child_router(node), 0, node, PASA_BAD_RECORD);
     same_child(what, pasa_child_host(node), 0, node, PASA_BAD_RECORD);
     same_hop(what, pasa_next_hop(node, PASA_ROOT), "0", PASA_STOPPED, PASA_BAD_RECORD);
     same_hop(what, pasa_packet_next_hop(node, NULL, 0), "0", PASA_STOPPED, PASA_BAD_RECORD);
+    same_hop(what, pasa_packet_next_hop(node, empty, sizeof empty), "0", PASA_STOPPED, PASA_BAD_RECORD);
     same(what, pasa_next_hops(node, &destination, 1, nodes, 1, actions, 1, refusals, 1), 1);
     same(what, nodes[0], 0);
     same(what, actions[0], PASA_STOPPED);
@@ -376,15 +385,15 @@ static void read_as(const char *what, const uint8_t *packet, size_t length, uint
 
 static void headers(void)
 {
-    const uint8_t known[5] = {0xF1, 0x80, 0x0F, 0x3E, 0x55};
+    const uint8_t known[6] = {0xF1, 0x80, 0x0F, 0x3E, 0x55, 0x55};
     uint8_t out[PASA_HEADER_MOST];
     memset(out, 0x55, sizeof out);
     struct pasa_written written = pasa_header_write(bits("111110"), out, sizeof out);
     same("the header of 111110: its octets", written.count, 4);
     same("the header of 111110: the refusal", written.refusal, PASA_DONE);
-    same_octets("the header of 111110, and one behind it", out, known, sizeof known);
-    read_as("the header of 111110", known, 4, bits("111110"), 4, PASA_DONE);
-    read_as("the header of 111110 with a payload", known, 5, bits("111110"), 4, PASA_DONE);
+    same_octets("the header of 111110, and two behind it", out, known, sizeof known);
+    read_as("the header of 111110", known, 5, bits("111110"), 4, PASA_DONE);
+    read_as("the header of 111110 with a payload", known, 6, bits("111110"), 4, PASA_DONE);
     same("the header of 255: its octets", pasa_header_write(255, out, sizeof out).count, 4);
     same("the header of 256: its octets", pasa_header_write(256, out, sizeof out).count, 5);
     same("the header of 65,535: its octets", pasa_header_write(65535, out, sizeof out).count, 5);
@@ -400,10 +409,165 @@ static void headers(void)
     read_as("F1 83 0F 00 00 00 3E", (const uint8_t[]){0xF1, 0x83, 0x0F, 0x00, 0x00, 0x00, 0x3E}, 7, 0, 0, PASA_WRONG_SIZE);
     read_as("F1 88 0F", (const uint8_t[]){0xF1, 0x88, 0x0F}, 3, 0, 0, PASA_WRONG_SIZE);
     read_as("F1 82 0F", (const uint8_t[]){0xF1, 0x82, 0x0F}, 3, 0, 0, PASA_ENDS_EARLY);
-    read_as("F1 82 0F 01 00 00", (const uint8_t[]){0xF1, 0x82, 0x0F, 0x01, 0x00, 0x00}, 6, 65536, 6, PASA_DONE);
+    read_as("F1 82 0F 01 00 00 and an octet", (const uint8_t[]){0xF1, 0x82, 0x0F, 0x01, 0x00, 0x00, 0x00}, 7, 65536, 6, PASA_DONE);
     read_as("F1 81 0F 00", (const uint8_t[]){0xF1, 0x81, 0x0F, 0x00}, 4, 0, 0, PASA_ENDS_EARLY);
     read_as("F1 A1", (const uint8_t[]){0xF1, 0xA1}, 2, 0, 0, PASA_WRONG_START);
     read_as("no octets", NULL, 0, 0, 0, PASA_ENDS_EARLY);
+}
+
+/* A packet as it is put together, and the octets of which a payload is made. */
+enum { LONGEST_PAYLOAD = 65537 };
+static uint8_t packet[PASA_HEADER_MOST + 24 + LONGEST_PAYLOAD];
+static const uint8_t BEHIND[] = {0x00, 0x01, 0x0F, 0xF1, 0xFF};
+
+/* A header octet by octet, as the documents have it, of an address in so many octets, with zeros in front where it takes fewer; behind it the same
+ * octet again and again. Answers where the payload begins. */
+static size_t put_packet(uint64_t address, size_t size, uint8_t behind)
+{
+    const uint8_t start[3] = {0xF1, (uint8_t)(0x80 + size - 1), 0x0F};
+    memset(packet, behind, sizeof packet);
+    memcpy(packet, start, sizeof start);
+    for (size_t i = 0; i < size; i++)
+        packet[3 + i] = size - i > 8 ? 0 : (uint8_t)(address >> 8 * (size - i - 1));
+    return 3 + size;
+}
+
+/* "A packet whose payload is empty is refused with 16": one octet is enough, whatever it is, and a header that is not whole is 4 as before. */
+static void payload_behind(uint64_t address, size_t size)
+{
+    char what[72];
+    for (size_t i = 0; i < sizeof BEHIND; i++) {
+        size_t place = put_packet(address, size, BEHIND[i]);
+        snprintf(what, sizeof what, "a beginning of the header of 0x%" PRIx64, address);
+        for (size_t length = 0; length < place; length++)
+            read_as(what, packet, length, 0, 0, PASA_ENDS_EARLY);
+        snprintf(what, sizeof what, "the header of 0x%" PRIx64 " alone", address);
+        read_as(what, packet, place, 0, 0, PASA_EMPTY);
+        snprintf(what, sizeof what, "the header of 0x%" PRIx64 " and %02X", address, BEHIND[i]);
+        read_as(what, packet, place + 1, address, place, PASA_DONE);
+    }
+    const size_t more[] = {2, 3, 8, 253, 254, 255, 256, 257, 65535, 65536, LONGEST_PAYLOAD};
+    for (size_t i = 0; i < sizeof more / sizeof *more; i++) {
+        snprintf(what, sizeof what, "the header of 0x%" PRIx64 " and %zu octets", address, more[i]);
+        read_as(what, packet, 3 + size + more[i], address, 3 + size, PASA_DONE);
+    }
+}
+
+/* "demand 2's reading back, get one payload octet more"; "writing a header is unchanged" */
+static void written_and_read(uint64_t address, size_t size)
+{
+    char what[72];
+    uint8_t out[PASA_HEADER_MOST + 1];
+    size_t place = put_packet(address, size, 0xA7);
+    for (size_t room = place; room <= place + 1; room++) {
+        bool alone = room == place;
+        memset(out, 0xA7, sizeof out);
+        struct pasa_written written = pasa_header_write(address, out, room);
+        snprintf(what, sizeof what, "0x%" PRIx64 " in %zu octets", address, room);
+        same(what, written.count, place);
+        same(what, written.refusal, PASA_DONE);
+        same_octets(what, out, packet, sizeof out);
+        read_as(what, out, room, alone ? 0 : address, alone ? 0 : place, alone ? PASA_EMPTY : PASA_DONE);
+    }
+}
+
+static void payloads(void)
+{
+    for (size_t size = 1; size <= 8; size++) {
+        const uint64_t least = UINT64_C(1) << 8 * (size - 1), most = UINT64_MAX >> 8 * (8 - size);
+        const uint64_t addresses[] = {least, least + 1, 2 * least, 128 * least, most - 1, most};
+        for (size_t i = 0; i < sizeof addresses / sizeof *addresses; i++) {
+            payload_behind(addresses[i], size);
+            written_and_read(addresses[i], size);
+        }
+    }
+    read_as("F1 80 0F 3E", (const uint8_t[]){0xF1, 0x80, 0x0F, 0x3E}, 4, 0, 0, PASA_EMPTY);
+    read_as("F1 82 0F 01 00 00", (const uint8_t[]){0xF1, 0x82, 0x0F, 0x01, 0x00, 0x00}, 6, 0, 0, PASA_EMPTY);
+}
+
+/* "after every other header check": another fault decides, without a payload and with one; and before it a bad record does. */
+static void faulty_header(const char *what, size_t place, uint8_t refusal)
+{
+    for (size_t payload = 0; payload <= 2; payload++) {
+        char part[80];
+        snprintf(part, sizeof part, "%s, %zu octets behind", what, payload);
+        read_as(part, packet, place + payload, 0, 0, refusal);
+        same_hop(part, pasa_packet_next_hop(record("10", 2, 2), packet, place + payload), "0", PASA_STOPPED, refusal);
+        same_hop(part, pasa_packet_next_hop(record("10", 63, 0), packet, place + payload), "0", PASA_STOPPED, PASA_BAD_RECORD);
+    }
+}
+
+static void faulty_headers(void)
+{
+    for (size_t i = 0; i < sizeof BEHIND; i++) {
+        faulty_header("a single zero octet", put_packet(0, 1, BEHIND[i]), PASA_ZERO_ADDRESS);
+        for (size_t size = 2; size <= 8; size++) {
+            faulty_header("zeros alone", put_packet(0, size, BEHIND[i]), PASA_WRONG_SIZE);
+            faulty_header("a zero in front", put_packet(UINT64_MAX >> 8 * (9 - size), size, BEHIND[i]), PASA_WRONG_SIZE);
+        }
+        for (size_t size = 9; size <= 32; size++) {
+            size_t place = put_packet(1, size, BEHIND[i]);
+            packet[3] = 0x80;
+            faulty_header("a size above 8", place, PASA_WRONG_SIZE);
+            faulty_header("a size above 8 and no address", 3, PASA_WRONG_SIZE);
+        }
+        for (size_t size = 1; size <= 8; size++)
+            for (size_t wrong = 0; wrong < 3; wrong++) {
+                size_t place = put_packet(UINT64_MAX >> 8 * (8 - size), size, BEHIND[i]);
+                packet[wrong] ^= 0x20;
+                faulty_header("one of the first three octets wrong", place, PASA_WRONG_START);
+            }
+    }
+}
+
+/* Where a packet to the destination goes with a payload; without one it goes nowhere: 16 is "before any next-hop answer". */
+static void sent(const char *what, struct pasa_node node, uint64_t destination, size_t size, uint64_t to, uint8_t action, uint8_t refusal)
+{
+    char part[80];
+    for (size_t i = 0; i < sizeof BEHIND; i++) {
+        size_t place = put_packet(destination, size, BEHIND[i]);
+        snprintf(part, sizeof part, "%s, without a payload", what);
+        same_hop(part, pasa_packet_next_hop(node, packet, place), "0", PASA_STOPPED, PASA_EMPTY);
+        for (size_t payload = 1; payload <= 256; payload += 255) {
+            snprintf(part, sizeof part, "%s, with %zu times %02X", what, payload, BEHIND[i]);
+            same_hop_to(part, pasa_packet_next_hop(node, packet, place + payload), to, action, refusal);
+        }
+    }
+}
+
+/* "from a packet 1, then the reading order, then 7": every beginning of a packet, the empty one among them, and a whole packet. */
+static void sent_at_bad(const char *what, struct pasa_node node, uint64_t destination, size_t size)
+{
+    size_t place = put_packet(destination, size, 0x00);
+    for (size_t length = 0; length <= place + 1; length++)
+        same_hop(what, pasa_packet_next_hop(node, packet, length), "0", PASA_STOPPED, PASA_BAD_RECORD);
+}
+
+static void next_hops_of_packets(void)
+{
+    sent("at 1 for a packet to 1", record("1", 2, 2), 1, 1, 1, PASA_DELIVERED, PASA_DONE);
+    sent("at 10 for a packet to 10", record("10", 2, 2), 2, 1, 2, PASA_DELIVERED, PASA_DONE);
+    sent("at 11 for a packet to 11", record("11", 0, 0), 3, 1, 3, PASA_DELIVERED, PASA_DONE);
+    sent("at 11 for a packet to 110", record("11", 0, 0), bits("110"), 1, 1, PASA_TO_PARENT, PASA_DONE);
+    sent("at 10 for a packet to 1", record("10", 2, 2), 1, 1, 1, PASA_TO_PARENT, PASA_DONE);
+    sent("at 10 for a packet to 110", record("10", 2, 2), bits("110"), 1, 1, PASA_TO_PARENT, PASA_DONE);
+    sent("at 1 for a packet to 110", record("1", 2, 2), bits("110"), 1, bits("110"), PASA_TO_CHILD, PASA_DONE);
+    sent("at 10 for a packet to 101011", record("10", 2, 2), bits("101011"), 1, bits("1010"), PASA_TO_CHILD, PASA_DONE);
+    sent("at 1 for a packet to 1110", record("1", 2, 2), bits("1110"), 1, 0, PASA_STOPPED, PASA_CHILD_NOT_GIVEN);
+    sent("at a bare root for a packet to 10", pasa_fresh(PASA_ROOT), 2, 1, 0, PASA_STOPPED, PASA_CHILD_NOT_GIVEN);
+    for (size_t size = 2; size <= 8; size++) {
+        const uint64_t least = UINT64_C(1) << 8 * (size - 1), most = UINT64_MAX >> 8 * (8 - size);
+        sent("at a router for a packet to it", pasa_fresh(least), least, size, least, PASA_DELIVERED, PASA_DONE);
+        sent("at a host for a packet to it", pasa_fresh(most), most, size, most, PASA_DELIVERED, PASA_DONE);
+        sent("at 11 for a packet to many ones", record("11", 0, 0), most, size, 1, PASA_TO_PARENT, PASA_DONE);
+        sent("at 1 for a packet to many zeros", record("1", 1, 0), least, size, 2, PASA_TO_CHILD, PASA_DONE);
+        sent("at 1 for a packet to many zeros, not given", record("1", 0, 1), least, size, 0, PASA_STOPPED, PASA_CHILD_NOT_GIVEN);
+    }
+    sent_at_bad("at a record of address zero", record("0", 0, 0), 1, 1);
+    sent_at_bad("at a record with a count too many, for itself", record("10", 63, 0), 2, 1);
+    sent_at_bad("at a record with a count too many, for a child", record("10", 0, 63), bits("1010"), 1);
+    sent_at_bad("at a host with a count, for itself", record("11", 1, 0), 3, 1);
+    sent_at_bad("at a record with a limit of 65", limited(record("1", 0, 0), 65, 64), UINT64_MAX, 8);
 }
 
 static void ipv6_forms(void)
@@ -1731,6 +1895,9 @@ int main(void)
     settings();
     next_hops();
     headers();
+    payloads();
+    faulty_headers();
+    next_hops_of_packets();
     ipv6_forms();
     nsa_fields();
     nsa_payload_lengths_refused();

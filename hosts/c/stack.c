@@ -249,20 +249,32 @@ static const struct packet {
     {{0xF1, 0x88, 0x0F, 0x01}, 4, PASA_WRONG_SIZE},
     {{0xF1, 0x81, 0x0F, 0x00, 0x01}, 5, PASA_WRONG_SIZE},
     {{0xF1, 0x80, 0x0F, 0x00}, 4, PASA_ZERO_ADDRESS},
+    {{0xF1, 0x80, 0x0F, 0x01}, 4, PASA_EMPTY},
+    {{0xF1, 0x87, 0x0F, 0x80, 0, 0, 0, 0, 0, 0, 0}, 11, PASA_EMPTY},
 };
 
 enum { BAD_PACKETS = sizeof PACKETS / sizeof *PACKETS };
 
+/* The header of an address and one octet of payload: answers how many they are. */
+static size_t packet_to(uint64_t address, uint8_t *octets)
+{
+    size_t place = pasa_header_write(address, octets, PASA_HEADER_MOST).count;
+    octets[place] = 0x5A;
+    return place + 1;
+}
+
 static void packet_next_hop(void)
 {
-    uint8_t octets[PASA_HEADER_MOST];
+    uint8_t octets[PASA_HEADER_MOST + 1];
     for (size_t i = 0; i < HOP_CASES; i++) {
         if (HOPS[i].destination == 0)
             continue;
-        size_t length = pasa_header_write(HOPS[i].destination, octets, sizeof octets).count;
+        size_t length = packet_to(HOPS[i].destination, octets);
         CALL(NODE(HOPS[i].node), WORD(octets), length);
         same("a packet's next hop", answer.hop.refusal, HOPS[i].refusal);
         same("a packet's action", answer.hop.action, HOPS[i].action);
+        CALL(NODE(HOPS[i].node), WORD(octets), length - 1);
+        same("an empty packet's next hop", answer.hop.refusal, HOPS[i].refusal == PASA_BAD_RECORD ? PASA_BAD_RECORD : PASA_EMPTY);
     }
     for (size_t i = 0; i < BAD_PACKETS; i++) {
         CALL(NODE(pasa_fresh(PASA_ROOT)), WORD(PACKETS[i].octets), PACKETS[i].length);
@@ -300,11 +312,13 @@ static void header_write(void)
 
 static void header_read(void)
 {
-    uint8_t octets[PASA_HEADER_MOST];
+    uint8_t octets[PASA_HEADER_MOST + 1];
     for (unsigned size = 1; size <= 8; size++) {
-        size_t length = pasa_header_write(UINT64_C(1) << (8 * size - 1), octets, sizeof octets).count;
+        size_t length = packet_to(UINT64_C(1) << (8 * size - 1), octets);
         CALL(ANSWER, WORD(octets), length);
         same("a header read", answer.read.refusal, PASA_DONE);
+        CALL(ANSWER, WORD(octets), length - 1);
+        same("a header alone read", answer.read.refusal, PASA_EMPTY);
     }
     for (size_t i = 0; i < BAD_PACKETS; i++) {
         CALL(ANSWER, WORD(PACKETS[i].octets), PACKETS[i].length);
