@@ -2,7 +2,7 @@
  * pasa_ipv6_read, pasa_nsa_read, pasa_plan_read and pasa_journal_recover, and what they answer is compared with reference.h; so are
  * pasa_journal_write, pasa_journal_record and pasa_crc on the same journals, pasa_child_router, pasa_child_host, pasa_limit_routers and
  * pasa_limit_hosts on the same records, and pasa_nsa_write on numbers that the octets spell. What is read as an address, or as the fields of NSA, is
- * written again, and must give the octets read.
+ * written again, and must give the octets read; a header that is written is refused alone, and reads back with a payload behind it.
  *
  * The archive is not instrumented, so the octets lent stand once at the end and once at the beginning of mapped memory, with a page that
  * nobody may touch behind them or before them: one octet too far ends the run. What is lent for reading is compared with a copy afterwards,
@@ -80,6 +80,27 @@ static void write_again(uint8_t *page, uint64_t address, const uint8_t *octets, 
     }
 }
 
+static bool same_read(struct pasa_read got, struct pasa_read expected)
+{
+    return got.address == expected.address && got.place == expected.place && got.refusal == expected.refusal;
+}
+
+/* "demand 2's reading back, get one payload octet more": a header that is written is 16 alone, and reads back with a payload, whatever it is. */
+static void read_back(uint8_t *page, uint64_t address, const uint8_t *octets, size_t count, size_t payload, uint8_t octet)
+{
+    const struct pasa_read empty = {0, 0, PASA_EMPTY}, found = {address, count, PASA_DONE};
+    for (int at_end = 0; at_end < 2; at_end++) {
+        size_t length = count + payload;
+        uint8_t *lent = at_end ? page + PAGE - length : page;
+        memset(page, octet, PAGE);
+        struct pasa_written written = pasa_header_write(address, lent, length);
+        if (written.refusal != PASA_DONE || written.count != count || (payload > 0 && lent[count] != octet))
+            fail("a header is written otherwise where there is more room", octets, count);
+        if (!same_read(pasa_header_read(lent, length), payload > 0 ? found : empty))
+            fail(payload > 0 ? "a header is not read back with a payload" : "a header alone is not refused with 16", octets, count);
+    }
+}
+
 static bool same_node(struct pasa_node got, struct pasa_node expected)
 {
     return got.address == expected.address && got.routers == expected.routers && got.hosts == expected.hosts &&
@@ -116,28 +137,44 @@ static void records(struct pasa_node node, uint64_t limit)
     }
 }
 
-static void packets(struct pasa_node node, const uint8_t *packet, size_t length)
+static void packet_at(struct pasa_node node, const uint8_t *packet, size_t length)
 {
-    static uint8_t *page, *out;
-    if (page == NULL) {
+    static uint8_t *page;
+    if (page == NULL)
         page = guarded(PAGE);
-        out = guarded(PAGE);
-    }
     struct pasa_read expected_read = reference_header_read(packet, length);
     struct pasa_hop expected_hop = reference_packet_next_hop(node, packet, length);
     for (int at_end = 0; at_end < 2; at_end++) {
         uint8_t *lent = placed(page, PAGE, at_end, packet, length);
         struct pasa_read read = pasa_header_read(lent, length);
         unchanged(lent, packet, length);
-        if (read.address != expected_read.address || read.place != expected_read.place || read.refusal != expected_read.refusal)
+        if (!same_read(read, expected_read))
             fail("pasa_header_read differs at", packet, length);
         struct pasa_hop hop = pasa_packet_next_hop(node, lent, length);
         unchanged(lent, packet, length);
         if (hop.node != expected_hop.node || hop.refusal != expected_hop.refusal || hop.action != expected_hop.action)
             fail_at(node, "pasa_packet_next_hop differs at", packet, length);
     }
-    if (expected_read.refusal == PASA_DONE)
-        write_again(out, expected_read.address, packet, expected_read.place);
+}
+
+/* A packet, and its beginnings as far as a header and one octet behind it go: where it is accepted, its header alone is among them. */
+static void packets(struct pasa_node node, const uint8_t *packet, size_t length)
+{
+    static uint8_t *out;
+    if (out == NULL)
+        out = guarded(PAGE);
+    packet_at(node, packet, length);
+    for (size_t count = 0; count < length && count <= PASA_HEADER_MOST + 1; count++)
+        packet_at(node, packet, count);
+    struct pasa_read read = reference_header_read(packet, length);
+    if (read.refusal != PASA_DONE)
+        return;
+    write_again(out, read.address, packet, read.place);
+    static const size_t payloads[4] = {0, 1, 2, 256};
+    for (size_t i = 0; i < 4; i++) {
+        read_back(out, read.address, packet, read.place, payloads[i], 0x00);
+        read_back(out, read.address, packet, read.place, payloads[i], 0xFF);
+    }
 }
 
 static void forms(size_t prefix_length, const uint8_t *octets, size_t length)
@@ -617,9 +654,9 @@ static void journals(const uint8_t *octets, size_t count)
 
 /* All octets are a plan's text, and then spell another one; then they are a journal, and spell another one; then they are fields of NSA, and spell
  * numbers for others. Then the first twelve are a node's record, if there are twelve, which is asked for children and set limits, and the packet
- * follows: once with the record as it stands, once with a shorter address and smaller counts and limits, so that more records are good. Then the
- * octets behind the first are a prefix, of as many octets as the first says, and an IPv6 address; and at last all octets are an IPv6 address with its
- * own first eight for the prefix. */
+ * follows, and its beginnings: once with the record as it stands, once with a shorter address and smaller counts and limits, so that more records are
+ * good. Then the octets behind the first are a prefix, of as many octets as the first says, and an IPv6 address; and at last all octets are an IPv6
+ * address with its own first eight for the prefix. */
 int LLVMFuzzerTestOneInput(const uint8_t *data, size_t size)
 {
     if (size > LARGEST)

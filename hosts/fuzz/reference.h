@@ -37,6 +37,11 @@ static struct pasa_read reference_header_read(const uint8_t *packet, size_t leng
         answer.refusal = size == 1 ? PASA_ZERO_ADDRESS : PASA_WRONG_SIZE;
         return answer;
     }
+    /* "A packet whose payload is empty is refused with 16, after every other header check" */
+    if (length - 3 == size) {
+        answer.refusal = PASA_EMPTY;
+        return answer;
+    }
     for (size_t i = 0; i < size; i++)
         answer.address |= (uint64_t)packet[3 + i] << (8 * (size - 1 - i));
     answer.place = 3 + size;
