@@ -7,12 +7,13 @@
 local pasa = Proto("pasa", "PASA routing header")
 
 -- The refusals that a reading gives, by the specification's numbers and in its words.
-local DONE, ENDS_EARLY, WRONG_START, WRONG_SIZE, ZERO_ADDRESS = 0, 4, 5, 6, 9
+local DONE, ENDS_EARLY, WRONG_START, WRONG_SIZE, ZERO_ADDRESS, EMPTY = 0, 4, 5, 6, 9, 16
 local REFUSALS = {
     [ENDS_EARLY] = "the packet ends too early",
     [WRONG_START] = "one of the first three octets is wrong",
     [WRONG_SIZE] = "a size above 8, or a first octet of zero where there are several",
     [ZERO_ADDRESS] = "an address is zero",
+    [EMPTY] = "the payload is empty",
 }
 
 -- "octet 0xF1 (page 1, RFC 8025); octet 100sssss, where sssss is the number of address octets less one (house choice); octet 15 as the type"
@@ -67,6 +68,7 @@ local experts = {
     [WRONG_START] = refusal_expert("wrong_start", WRONG_START),
     [WRONG_SIZE] = refusal_expert("wrong_size", WRONG_SIZE),
     [ZERO_ADDRESS] = refusal_expert("zero_address", ZERO_ADDRESS),
+    [EMPTY] = refusal_expert("empty", EMPTY),
 }
 local cut_expert = ProtoExpert.new("pasa.cut", "The capture ends within the header: no answer", expert.group.UNDECODED, expert.severity.NOTE)
 local all_experts = {cut_expert}
@@ -122,7 +124,13 @@ local function read_size(tvb)
     return octet(tvb, 1) % (SIZE_BITS + 1) + 1
 end
 
--- "a size above 8" is 6. "Then a missing address octet is 4." Then the zeros: the first octet decides, also where the capture has no other.
+-- "A packet whose payload is empty is refused with 16". The packet's own length says so, and not the capture's, which may have cut a payload off.
+local function payload_fault(tvb, place)
+    return tvb:reported_len() == place and EMPTY or DONE
+end
+
+-- "a size above 8" is 6. "Then a missing address octet is 4." Then the zeros, and 16 "after every other header check": the first octet and the
+-- packet's length decide, also where the capture has no other octet.
 local function read_address(tvb)
     local size = read_size(tvb)
     if size > LARGEST then
@@ -133,6 +141,9 @@ local function read_address(tvb)
         return present
     end
     local fault = zero_fault(size, octet(tvb, START))
+    if fault == DONE then
+        fault = payload_fault(tvb, START + size)
+    end
     return fault ~= DONE and fault or present
 end
 
