@@ -46,7 +46,8 @@ mod tests {
     #[test]
     fn a_refusal_counts_before_the_action() {
         assert_eq!(answer(7, 3), Err(Refusal::ChildNotGiven));
-        assert_eq!(answer(16, 3), Err(Refusal::Unknown(16)));
+        assert_eq!(answer(16, 3), Err(Refusal::EmptyPayload));
+        assert_eq!(answer(18, 3), Err(Refusal::Unknown(18)));
         assert_eq!(answer(255, 0), Err(Refusal::Unknown(255)));
     }
 

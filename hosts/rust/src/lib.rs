@@ -2,7 +2,7 @@
 //! by the proved functions of libpasa.a.
 //!
 //! ```
-//! use pasa::{Address, Hop, Node};
+//! use pasa::{Address, Hop, Node, Refusal};
 //!
 //! # fn main() -> Result<(), pasa::Refusal> {
 //! // The root gives its first router and its first host an address.
@@ -17,6 +17,9 @@
 //! assert_eq!(pasa::read_header(&packet)?, (router, payload));
 //! assert_eq!(Node::fresh(host).packet_next_hop(&packet)?, Hop::Parent(Address::ROOT));
 //! assert_eq!(root.packet_next_hop(&packet)?, Hop::Child(router));
+//!
+//! // Its payload is what stands behind the header. With none it goes nowhere.
+//! assert_eq!(root.packet_next_hop(&packet[..payload]), Err(Refusal::EmptyPayload));
 //! # Ok(())
 //! # }
 //! ```

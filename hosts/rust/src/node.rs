@@ -180,7 +180,7 @@ impl Node {
         Hop::answered(unsafe { sys::pasa_next_hop(self.record(), destination.number()) })
     }
 
-    /// The next hop at this node for a packet. Refusals: 1, then a reader's, then 7.
+    /// The next hop at this node for a packet. Refusals: 1, then a reader's, of which 16 (the payload is empty) is the last, then 7.
     pub fn packet_next_hop(&self, packet: &[u8]) -> Result<Hop, Refusal> {
         Hop::answered(unsafe { sys::pasa_packet_next_hop(self.record(), packet.as_ptr(), packet.len()) })
     }
@@ -231,7 +231,7 @@ mod tests {
         assert_eq!(root.child(answer(0b10, 0)), Ok(Address::answered(0b10)));
         assert_eq!(root, Node::answered(ANSWERED));
         assert_eq!(root.child(answer(0b10, 15)), Err(Refusal::AtLimit));
-        assert_eq!(root.child(answer(0b10, 16)), Err(Refusal::Unknown(16)));
+        assert_eq!(root.child(answer(0b10, 18)), Err(Refusal::Unknown(18)));
         assert_eq!(root.child(answer(0b10, 255)), Err(Refusal::Unknown(255)));
     }
 

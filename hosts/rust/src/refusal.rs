@@ -24,13 +24,14 @@ pub enum Refusal {
     BadPlan,
     TooMany,
     AtLimit,
+    EmptyPayload,
     BadJournal,
     /// A number that this crate doesn't know.
     Unknown(u8),
 }
 
 /// The refusals that the documents number, and their words.
-const TABLE: [(Refusal, &str); 16] = [
+const TABLE: [(Refusal, &str); 17] = [
     (Refusal::BadRecord, "the node record is bad, or a limit to set isn't 0 to 64 or is below its count"),
     (Refusal::HostAsked, "a host is asked for a child"),
     (Refusal::TooLong, "the child would be longer than 64 bits"),
@@ -52,11 +53,12 @@ const TABLE: [(Refusal, &str); 16] = [
     (Refusal::BadPlan, "a plan's text is outside the grammar"),
     (Refusal::TooMany, "a plan has too many bytes, a plan or a journal too many nodes, or an NSA payload length is above 65,787"),
     (Refusal::AtLimit, "a node is asked for a child at its limit"),
+    (Refusal::EmptyPayload, "the payload is empty"),
     (Refusal::BadJournal, "a journal's slot is out of place or no right block, or an address in it is no next child"),
 ];
 
 impl Refusal {
-    /// The documents' number, 1 to 15 or 17, or the unknown one.
+    /// The documents' number, 1 to 17, or the unknown one.
     pub const fn number(self) -> u8 {
         match self {
             Refusal::BadRecord => 1,
@@ -74,6 +76,7 @@ impl Refusal {
             Refusal::BadPlan => 13,
             Refusal::TooMany => 14,
             Refusal::AtLimit => 15,
+            Refusal::EmptyPayload => 16,
             Refusal::BadJournal => 17,
             Refusal::Unknown(number) => number,
         }
@@ -120,7 +123,7 @@ mod tests {
         for number in 1..=u8::MAX {
             let refusal = done(number, || 5).unwrap_err();
             assert_eq!(refusal.number(), number);
-            assert_eq!(matches!(refusal, Refusal::Unknown(_)), !matches!(number, 1..=15 | 17), "{refusal}");
+            assert_eq!(matches!(refusal, Refusal::Unknown(_)), !matches!(number, 1..=17), "{refusal}");
         }
     }
 }

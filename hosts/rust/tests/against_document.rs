@@ -4,6 +4,7 @@ mod document;
 mod fields;
 mod journals;
 mod limits;
+mod payloads;
 mod plans;
 
 use document::Kind;
@@ -94,7 +95,7 @@ impl Random {
         }
     }
 
-    /// A packet: valid, one octet of it damaged, cut off, or of any octets.
+    /// A packet: valid, with an empty payload or with some octets of it, or one octet damaged, cut off, or of any octets.
     fn packet(&mut self, address: u64) -> Vec<u8> {
         let payload = self.below(4);
         let mut packet = document::header(address.max(1));
@@ -253,23 +254,24 @@ fn packet_next_hop(node: Node, packet: &[u8], seen: &mut Seen) {
 #[test]
 fn next_hops_from_packets() {
     let random = &mut Random(4);
-    let seen = &mut Seen::default();
-    // every beginning of valid packets
+    let (mut seen, mut mixed) = (Seen::default(), Seen::default());
+    // every beginning of valid packets, the header alone among them
     for _ in 0..20_000 {
         let node = random.node();
         let mut packet = document::header(random.beside(node.address).max(1));
         packet.push(random.octet());
         for end in 0..=packet.len() {
-            packet_next_hop(node, &packet[..end], seen);
+            packet_next_hop(node, &packet[..end], &mut seen);
         }
     }
     for _ in 0..MILLION {
         let node = random.node();
         let destination = random.beside(node.address);
         let packet = random.packet(destination);
-        packet_next_hop(node, &packet, seen);
+        packet_next_hop(node, &packet, &mut mixed);
     }
-    seen.often(&[0, 1, 4, 5, 6, 7, 9]);
+    mixed.often(&[0, 1, 4, 5, 6, 7, 9, 16]);
+    seen.and(mixed).often(&[0, 1, 4, 5, 6, 7, 9, 16]);
 }
 
 #[test]
@@ -349,30 +351,39 @@ fn header_read(packet: &[u8], seen: &mut Seen) {
 
 #[test]
 fn header_reads() {
-    let seen = &mut Seen::default();
-    // every value of the first two octets, of the two behind the first, and of the address's first two; and every beginning of valid packets
+    let (mut seen, mut mixed) = (Seen::default(), Seen::default());
+    // every value of the first two octets, of the two behind the first, and of the address's first two; each whole, and without its last octet or
+    // the last two, so that an address octet is missing, or the payload is empty, or it is there
     for first in 0..=u16::MAX {
         let [a, b] = first.to_be_bytes();
-        header_read(&[a, b, 15, 1], seen);
-        header_read(&[0xF1, a, b, 1, 0, 1, 0, 1, 0, 1, 0], seen);
-        header_read(&[0xF1, 0x80, 15, a, b], seen);
-        header_read(&[0xF1, 0x81, 15, a, b], seen);
-        header_read(&[0xF1, 0x82, 15, a, b, 0], seen);
+        for packet in [
+            &[a, b, 15, 1, b][..],
+            &[0xF1, a, b, 1, 0, 1, 0, 1, 0, 1, 0, b],
+            &[0xF1, 0x80, 15, a, b, a],
+            &[0xF1, 0x81, 15, a, b, a],
+            &[0xF1, 0x82, 15, a, b, 0, b],
+        ] {
+            for end in packet.len() - 2..=packet.len() {
+                header_read(&packet[..end], &mut seen);
+            }
+        }
     }
+    // every beginning of valid packets, the header alone among them
     let random = &mut Random(7);
     for _ in 0..50_000 {
         let mut packet = document::header(random.number().max(1));
         packet.push(random.octet());
         for end in 0..=packet.len() {
-            header_read(&packet[..end], seen);
+            header_read(&packet[..end], &mut seen);
         }
     }
     for _ in 0..MILLION {
         let address = random.number();
         let packet = random.packet(address);
-        header_read(&packet, seen);
+        header_read(&packet, &mut mixed);
     }
-    seen.often(&[0, 4, 5, 6, 9]);
+    mixed.often(&[0, 4, 5, 6, 9, 16]);
+    seen.and(mixed).often(&[0, 4, 5, 6, 9, 16]);
 }
 
 #[test]

@@ -24,7 +24,7 @@ fn what_an_address_answers() {
 }
 
 /// The numbers that the documents give so far.
-const NUMBERS: [u8; 16] = [1, 2, 3, 4, 5, 6, 7, 8, 9, 10, 11, 12, 13, 14, 15, 17];
+const NUMBERS: [u8; 17] = [1, 2, 3, 4, 5, 6, 7, 8, 9, 10, 11, 12, 13, 14, 15, 16, 17];
 
 #[test]
 fn refusals_have_the_documents_numbers() {
@@ -34,11 +34,13 @@ fn refusals_have_the_documents_numbers() {
         assert_eq!(refusal.number(), number);
         assert_ne!(refusal, Refusal::Unknown(number));
     }
-    for number in [16, 18, 255] {
+    for number in [18, 19, 255] {
         assert_eq!(Refusal::of(number), Some(Refusal::Unknown(number)));
     }
     let error: Box<dyn Error> = Box::new(Refusal::ChildNotGiven);
     assert_eq!(error.to_string(), "refused 7: destination below this node, child not given");
+    assert_eq!((Refusal::of(16), Refusal::EmptyPayload.number()), (Some(Refusal::EmptyPayload), 16));
+    assert_eq!(Refusal::EmptyPayload.to_string(), "refused 16: the payload is empty");
 }
 
 /// The README's table has the documents' words.
@@ -126,6 +128,13 @@ fn next_hops() {
     assert_eq!(root.next_hop(address("1110")), Err(Refusal::ChildNotGiven));
     assert_eq!(Node::fresh(address("11")).next_hop(address("110")), Ok(Hop::Parent(Address::ROOT)));
     assert_eq!(root.packet_next_hop(&[0xF1, 0x81, 0x0F, 0x00]), Err(Refusal::EndsEarly));
+    assert_eq!(root.packet_next_hop(&[0xF1, 0x80, 0x0F, 0x06, 0x00]), Ok(Hop::Child(address("110"))));
+    assert_eq!(root.packet_next_hop(&[0xF1, 0x80, 0x0F, 0x0E, 0x00]), Err(Refusal::ChildNotGiven));
+    // an empty packet: for this node, for a child, for a child that is not given, at a bad record
+    for last in [0x01, 0x06, 0x0E] {
+        assert_eq!(root.packet_next_hop(&[0xF1, 0x80, 0x0F, last]), Err(Refusal::EmptyPayload));
+        assert_eq!(Node::restore(address("11"), 1, 0).packet_next_hop(&[0xF1, 0x80, 0x0F, last]), Err(Refusal::BadRecord));
+    }
     let (mut nodes, mut actions, mut refusals) = ([9; 2], [9; 3], [9; 3]);
     assert_eq!(root.next_hops(&[0b110, 0b1110, 1], &mut nodes, &mut actions, &mut refusals), 2);
     assert_eq!((nodes, actions, refusals), ([0b110, 0], [3, 0, 9], [0, 7, 9]));
@@ -137,6 +146,9 @@ fn headers_and_ipv6_forms() {
     assert_eq!(pasa::write_header(address("111110"), &mut out), Ok(4));
     assert_eq!(out[..4], [0xF1, 0x80, 0x0F, 0x3E]);
     assert_eq!(pasa::read_header(&out), Ok((address("111110"), 4)));
+    assert_eq!(pasa::read_header(&out[..5]), Ok((address("111110"), 4)));
+    assert_eq!(pasa::read_header(&out[..4]), Err(Refusal::EmptyPayload));
+    assert_eq!(pasa::read_header(&[0xF1, 0x80, 0x0F, 0x00]), Err(Refusal::ZeroAddress));
     assert_eq!(pasa::read_header(&[0xF1, 0x81, 0x0F, 0x00, 0x3E]), Err(Refusal::WrongSize));
     assert_eq!(pasa::write_header(address("111110"), &mut out[..3]), Err(Refusal::NoRoom));
     let prefix = [0x20, 0x01, 0x0d, 0xb8, 0, 0, 0, 0];

@@ -580,7 +580,10 @@ fn main() {
             assert_eq!(simple::header_write(*a, &mut out2).count, count);
             assert_eq!(out[..count], out2[..count]);
             let mut packet = out[..count].to_vec();
+            // the header alone is refused: what is timed has a payload
+            assert_eq!(header_read(&packet), simple::header_read(&packet));
             packet.resize(64, 0);
+            assert_eq!(header_read(&packet), Read { address: *a, place: count, refusal: 0 });
             assert_eq!(header_read(&packet), simple::header_read(&packet));
             packet
         })

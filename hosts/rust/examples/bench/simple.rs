@@ -166,6 +166,9 @@ pub fn header_read(packet: &[u8]) -> Read {
     if octets[0] == 0 {
         return refused(if size == 1 { 9 } else { 6 });
     }
+    if packet.len() == 3 + size {
+        return refused(16);
+    }
     let address = octets.iter().fold(0, |number, octet| number << 8 | u64::from(*octet));
     Read { address, place: 3 + size, refusal: 0 }
 }

@@ -62,7 +62,7 @@ fn in_help() {
         ("draw", 1),
         ("trace", 4),
         ("journal", 7),
-        ("header", 2),
+        ("header", 3),
         ("ipv6", 2),
         ("nsa", 3),
     ] {

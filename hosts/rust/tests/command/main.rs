@@ -95,4 +95,5 @@ const REFUSED_13: &str = "refused 13: a plan's text is outside the grammar";
 const REFUSED_14: &str =
     "refused 14: a plan has too many bytes, a plan or a journal too many nodes, or an NSA payload length is above 65,787";
 const REFUSED_15: &str = "refused 15: a node is asked for a child at its limit";
+const REFUSED_16: &str = "refused 16: the payload is empty";
 const REFUSED_17: &str = "refused 17: a journal's slot is out of place or no right block, or an address in it is no next child";

@@ -195,7 +195,7 @@ pub fn next_hop(node: Node, destination: u64) -> Hop {
     }
 }
 
-/// "from a packet 1, then the reading order, then 7"
+/// "from a packet 1, then the reading order, then 7"; 16 comes "before any next-hop answer".
 pub fn packet_next_hop(node: Node, packet: &[u8]) -> Hop {
     let refused = |refusal| Hop { node: 0, refusal, action: 0 };
     if !is_good(node) {
@@ -245,7 +245,7 @@ fn octet_bits(octets: &[u8]) -> Bits {
 
 /// "the first three octets are checked in order; one that is absent is 4, one that is wrong is 5 (of the second only its top three bits).
 /// .. Then a missing address octet is 4." "Document 01's size rule becomes '1 to 8', refusal 6 means a size above 8 or a first octet of zero
-/// where there are several, and 9 means a single zero octet."
+/// where there are several, and 9 means a single zero octet." "A packet whose payload is empty is refused with 16, after every other header check".
 pub fn header_read(packet: &[u8]) -> Read {
     let refused = |refusal| Read { address: 0, place: 0, refusal };
     for place in 0..3 {
@@ -269,9 +269,11 @@ pub fn header_read(packet: &[u8]) -> Read {
     if packet.len() < 3 + size {
         return refused(4);
     }
-    match &packet[3..3 + size] {
+    let (octets, payload) = packet[3..].split_at(size);
+    match octets {
         [0] => refused(9),
         [0, ..] => refused(6),
+        _ if payload.is_empty() => refused(16),
         octets => Read { address: number(&octet_bits(octets)), place: 3 + size, refusal: 0 },
     }
 }

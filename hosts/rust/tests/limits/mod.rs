@@ -1,12 +1,12 @@
 //! Limits beside the specification: every count, limit and setting about the boundaries, and lists of requests and settings, refused ones among
 //! them, anywhere, with packets through the trees that they leave.
 use crate::document::{self, Kind};
-use crate::{Random, Seen, MILLION};
+use crate::{shown, Random, Seen, MILLION};
 use pasa::sys::{self, Child, Limited, Node};
 use pasa::{Address, Hop, Refusal, PATH_MOST};
 use std::collections::BTreeMap;
 
-const KINDS: [Kind; 2] = [Kind::Router, Kind::Host];
+pub const KINDS: [Kind; 2] = [Kind::Router, Kind::Host];
 
 /// Counts and limits about every boundary of an octet, of 64 and of nothing.
 const ABOUT: [u8; 13] = [0, 1, 2, 3, 31, 62, 63, 64, 65, 66, 128, 254, 255];
@@ -123,16 +123,16 @@ fn limits_of_records() {
 }
 
 /// A tree as the specification has it, and the same by the crate: the record of each node.
-struct Trees {
+pub struct Trees {
     document: BTreeMap<u64, Node>,
     crates: BTreeMap<u64, pasa::Node>,
     /// the addresses in the order given
-    given: Vec<u64>,
+    pub given: Vec<u64>,
 }
 
 /// A line of a list: what is asked of a node, or the limit that is to be set.
 #[derive(Clone, Copy, Debug)]
-enum Line {
+pub enum Line {
     Request(Kind),
     Setting(Kind, u64),
 }
@@ -143,7 +143,7 @@ fn number(refusal: Refusal) -> u8 {
 
 impl Trees {
     /// "from a bare root"
-    fn new() -> Trees {
+    pub fn new() -> Trees {
         let mut trees = Trees { document: BTreeMap::new(), crates: BTreeMap::new(), given: Vec::new() };
         trees.take_in(1);
         trees
@@ -157,7 +157,7 @@ impl Trees {
     }
 
     /// One line at a node that is there: "made with that node's record and handing one back as a request does". Answers the refusal's number.
-    fn obey(&mut self, at: u64, line: Line) -> u8 {
+    pub fn obey(&mut self, at: u64, line: Line) -> u8 {
         let node = self.document[&at];
         let (record, refusal, child) = match line {
             Line::Request(kind) => {
@@ -196,22 +196,21 @@ impl Trees {
         (record, answer.map_or_else(number, |_| 0), answer.unwrap_or(0))
     }
 
-    /// The nodes that a packet for an address meets, and the refusal that stops it, 0 where it is delivered.
-    fn walk(&self, from: u64, to: u64) -> (Vec<u64>, u8) {
-        let packet = document::header(to);
+    /// The nodes that a packet meets, and the refusal that stops it, 0 where it is delivered.
+    pub fn walk(&self, from: u64, packet: &[u8]) -> (Vec<u64>, u8) {
         let mut met = vec![from];
         while met.len() <= PATH_MOST {
             let node = &self.crates[met.last().unwrap()];
-            match node.packet_next_hop(&packet) {
+            match node.packet_next_hop(packet) {
                 Ok(Hop::Deliver(named)) => {
-                    assert_eq!(Some(&named.number()), met.last(), "a delivery from {from:#b} for {to:#b} names another node");
+                    assert_eq!(Some(&named.number()), met.last(), "a delivery from {from:#b} of {} names another node", shown(packet));
                     return (met, 0);
                 }
                 Ok(Hop::Parent(next) | Hop::Child(next)) => met.push(next.number()),
                 Err(refusal) => return (met, refusal.number()),
             }
         }
-        panic!("a packet from {from:#b} for {to:#b} meets more nodes than a path has: {met:x?}");
+        panic!("a packet from {from:#b}, {}meets more nodes than a path has: {met:x?}", shown(packet));
     }
 
     /// "the deepest of d's ancestors in the tree": the nodes on d's way from the root, d itself among them.
@@ -221,11 +220,15 @@ impl Trees {
         on_the_way.into_iter().find(|address| self.document.contains_key(address)).unwrap()
     }
 
-    /// Demand 3: the packet arrives along the path, or stops with 7 at the deepest ancestor.
-    fn send(&self, from: u64, to: u64) -> u8 {
+    /// Demand 3: the packet arrives along the path, or stops with 7 at the deepest ancestor; "an empty one stops with 16 where it starts".
+    pub fn send(&self, from: u64, to: u64, payload: &[u8]) -> u8 {
+        let packet = [&document::header(to), payload].concat();
         let end = self.deepest(to);
-        let expected = (document::way(from, end), if end == to { 0 } else { 7 });
-        assert_eq!(self.walk(from, to), expected, "from {from:#b} for {to:#b} among {:x?}", self.given);
+        let expected = match payload {
+            [] => (vec![from], 16),
+            _ => (document::way(from, end), if end == to { 0 } else { 7 }),
+        };
+        assert_eq!(self.walk(from, &packet), expected, "from {from:#b}, {}among {:x?}", shown(&packet), self.given);
         expected.1
     }
 }
@@ -261,7 +264,7 @@ impl Random {
 /// list"
 #[test]
 fn trees_under_limits() {
-    let random = &mut Random(19);
+    let (random, payloads) = (&mut Random(19), &mut Random(24));
     let (mut requests, mut settings, mut ways) = (Seen::default(), Seen::default(), Seen::default());
     while requests.inputs() < MILLION / 2 {
         let mut trees = Trees::new();
@@ -282,12 +285,14 @@ fn trees_under_limits() {
                 1 => random.number(),
                 _ => trees.given[random.below(trees.given.len())],
             };
-            ways.add(trees.send(from, to.max(1)));
+            let octets = 1 + payloads.below(3);
+            ways.add(trees.send(from, to.max(1), &payloads.octets(octets)));
+            ways.add(trees.send(from, to.max(1), &[]));
         }
     }
     requests.met(&[0, 2, 3, 15]);
     settings.met(&[0, 1]);
-    ways.met(&[0, 7]);
+    ways.met(&[0, 7, 16]);
 }
 
 /// The root alone: a limit of each kind, children up to it and one more, and the limit raised, for every limit from 0 to 64.

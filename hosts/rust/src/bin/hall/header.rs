@@ -20,7 +20,8 @@ pub const COMMAND: Command = Command {
     help: "\
 Writes the header of a packet for A as octets in hexadecimal, or reads one at the front
 of a packet: HEX is its octets, with spaces or colons between them or not, in one word
-or in several; - reads them from standard input. Place is where the payload begins.
+or in several; - reads them from standard input. Place is where the payload begins. A
+packet that ends there has an empty payload and is refused with 16.
 
     $ hall header write 111110
     f1 80 0f 3e
@@ -31,6 +32,8 @@ or in several; - reads them from standard input. Place is where the payload begi
     parent  1
     place   4
     payload 2 octets
+    $ hall header read f1 80 0f 3e
+    refused 16: the payload is empty
 ",
     run,
 };

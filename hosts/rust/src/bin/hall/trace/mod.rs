@@ -2,7 +2,7 @@
 //! and shows the way of packets through it.
 //!
 //! Every address is `Node::router_child`'s or `Node::host_child`'s answer, every limit is set by `Node::set_router_limit` or
-//! `Node::set_host_limit`, every packet is a header that `write_header` wrote, and every hop
+//! `Node::set_host_limit`, every packet is a header that `write_header` wrote with one payload octet behind it, and every hop
 //! is `packet_next_hop`'s answer with the record of the node that the packet has reached.
 mod line;
 pub mod tree;
@@ -35,7 +35,7 @@ begins with the root, 1, alone; addresses are binary digits.
     host A                  ask node A for a host
     limit A routers LIMIT   set how many routers node A may give; 64 is no limit
     limit A hosts LIMIT     set how many hosts node A may give
-    send A D                a packet for D from node A
+    send A D                a packet for D from node A, with a payload of one octet
     tree                    print the tree as it stands
 
 Empty lines and lines that begin with # are passed over. A refused request, setting or

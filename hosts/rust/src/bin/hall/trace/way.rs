@@ -14,12 +14,15 @@ impl fmt::Display for Hops {
     }
 }
 
-/// Prints the way of a packet, which is a header with no payload.
+/// "Demand 3 speaks of packets with at least one payload octet": a packet here has just one, and no answer hangs on what it is.
+const PAYLOAD: usize = 1;
+
+/// Prints the way of a packet, which is a header and one payload octet.
 pub fn send(from: Address, to: Address, tree: &Tree, out: &mut dyn Write) -> io::Result<()> {
     write!(out, "send {from} to {to}:")?;
-    let mut octets = [0; HEADER_MOST];
+    let mut octets = [0; HEADER_MOST + PAYLOAD];
     let size = pasa::write_header(to, &mut octets).expect("there is room for every header");
-    walk(&octets[..size], from, tree, out)
+    walk(&octets[..size + PAYLOAD], from, tree, out)
 }
 
 /// In every tree that requests and settings grow, a packet meets at most as many nodes as a path has, and each is in the tree; the other two endings
