@@ -44,7 +44,3 @@ octetsReading-inverse p a k e = go (octetsReading-cases p)
     go (inr (s, f)) =
         let same = sym (octetsReading-found p s f) ∙ e in
         (s, f, ap (λ (x : HeaderAnswer). x .address) same, ap (λ (x : HeaderAnswer). x .place) same)
-
--- a refusal's number is never 0
-pub octetsReading-refused : (p : List ℕ) {n : ℕ} → octetsReading p ≡ refusedHeader n → n ≡ 0 → ⊥
-octetsReading-refused p e z = omega (arith, octetsReading-inverse p 0 0 (e ∙ ap refusedHeader z) .3)

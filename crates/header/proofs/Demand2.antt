@@ -231,7 +231,7 @@ where-done a buffer payload n fits behind e =
     )
 
 -- into a buffer of the header's length the header is written, and no more
-wrote-alone : (a : ℕ) (buffer : List ℕ) → IsAddress a → length buffer ≡ place a
+pub wrote-alone : (a : ℕ) (buffer : List ℕ) → IsAddress a → length buffer ≡ place a
     → (writing a buffer .answer ≡ wrote (place a)) × (writing a buffer .buffer ≡ header a)
 wrote-alone a buffer n e =
     let (answered, left) = wrote-header a buffer n (omega arith) in

@@ -25,11 +25,11 @@ module _ (right : ℕ → Bool) (rest : List (ℕ → Bool)) (p : List ℕ) (i :
   unfolding inOrder
   inOrder-right h e = rw (drop-cons p i 0 h, e)
 
--- no fault has a number above 5
 pub if-most : (t : Bool) {a b k : ℕ} → a ≤ k → b ≤ k → (if t then a else b) ≤ k
 if-most true h l = h
 if-most false h l = l
 
+-- no fault has a number above 5
 inOrder-most : (rights : List (ℕ → Bool)) (p : List ℕ) → inOrder rights p ≤ 5
 unfolding inOrder
 inOrder-most [] p = lit≤ tt

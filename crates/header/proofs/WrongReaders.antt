@@ -2,7 +2,8 @@
 -- takes an even number of octets alone is refuted by demand 1 at the header of 62 and an octet behind it, and one that has 4 before 6 at nine octets
 -- said and none there. The octets' own reading, which takes an empty payload, is refuted by demand 2 at the header of 1, which it reads with its place
 -- at the end, and so is a reader that wants two octets, at the same header with one behind it. One that has 16 before 9 is refuted by demand 1 at a
--- single zero octet, and one that has it before 4 at one octet said and none there. Assumes nothing.
+-- single zero octet, one that has it before 4 at one octet said and none there, and one that gives an address beside it at the header of 1. Assumes
+-- nothing.
 use mathlib.Core.Path.{refl, ap}
 use mathlib.Core.List.{List, [], _∷_}
 use Prim.Native.Nat.{ℕ}
@@ -16,7 +17,7 @@ use Rattle.octets.specs.Octets.{AreOctets, octets, write}
 use Rattle.header.specs.Header.{header, place, size, writing, HeaderAnswer, octetsReading}
 use Rattle.header.specs.RoundTrip.{HeaderRoundTrip}
 use Rattle.header.specs.Refusals.{HeaderReadRefusals}
-use Rattle.header.specs.WrongReaders.{surplusReader, evenReader, missingFirstReader, emptyFirstReader, twoOctetsReader, shortEmptyReader}
+use Rattle.header.specs.WrongReaders.{surplusReader, evenReader, missingFirstReader, emptyFirstReader, twoOctetsReader, shortEmptyReader, besideEmptyReader}
 use Rattle.header.proofs.Opened.{reading-opened}
 use Rattle.header.proofs.OneRule.{one-reader}
 
@@ -61,3 +62,7 @@ two-octets-reader-refuted claim =
 pub short-empty-reader-refuted : HeaderReadRefusals shortEmptyReader → ⊥
 unfolding shortEmptyReader reading-opened
 short-empty-reader-refuted claim = omega (arith, ap (λ (x : HeaderAnswer). x .refusal) (one-reader shortEmptyReader claim (0xF1 ∷ 0x80 ∷ 0x0F ∷ [])))
+
+pub beside-empty-reader-refuted : HeaderReadRefusals besideEmptyReader → ⊥
+unfolding besideEmptyReader alone reading-opened
+beside-empty-reader-refuted claim = omega (arith, ap (λ (x : HeaderAnswer). x .address) (one-reader besideEmptyReader claim alone))

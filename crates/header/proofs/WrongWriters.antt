@@ -1,6 +1,6 @@
--- Each wrong writer is refuted by demand 2 at the address 1: one that writes nothing, refuses or pads in a buffer that has room, one that says
--- done without room in the empty buffer, and one that spoils in a buffer with one octet more than the header. One that has 10 before 9 is refuted by
--- demand 1 at zero and the empty buffer. Assumes nothing.
+-- Each wrong writer is refuted by demand 2 at the address 1: one that writes nothing, refuses or pads in a buffer that has room, one that wants room for
+-- a payload in a buffer of the header's length, one that says done without room in the empty buffer, and one that spoils in a buffer with one octet
+-- more than the header. One that has 10 before 9 is refuted by demand 1 at zero and the empty buffer. Assumes nothing.
 use mathlib.Core.Path.{refl, ap}
 use mathlib.Core.List.{List, [], _∷_}
 use Prim.Native.Nat.{ℕ}
@@ -14,7 +14,7 @@ use Rattle.address.specs.Numbers.{IsAddress}
 use Rattle.octets.specs.Octets.{octets, WriteEffect, refuseWriting, write}
 use Rattle.header.specs.Header.{header, place, size, writing, reading, HeaderAnswer}
 use Rattle.header.specs.RoundTrip.{HeaderReader, HeaderRoundTrip}
-use Rattle.header.specs.WrongWriters.{silentWriter, refusingWriter, roomlessWriter, spoilingWriter, paddingWriter, roomFirstWriter}
+use Rattle.header.specs.WrongWriters.{silentWriter, refusingWriter, roomlessWriter, spoilingWriter, paddingWriter, roomFirstWriter, payloadRoomWriter}
 use Rattle.header.specs.Refusals.{HeaderWriteRefusals}
 use Rattle.header.proofs.Opened.{reading-opened}
 use Rattle.header.proofs.OneRule.{one-writer}
@@ -29,6 +29,10 @@ silent-writer-refuted claim = omega (arith, ap (λ (x : HeaderAnswer). x .refusa
 pub refusing-writer-refuted : HeaderRoundTrip refusingWriter reading → ⊥
 unfolding refusingWriter refuseWriting place size bitLength bits bitsIn
 refusing-writer-refuted claim = omega (arith, ap (λ (w : Written). w .refusal) (claim .readsBack 1 (replicate 4 0) one (lit≤ tt) .0))
+
+pub payload-room-writer-refuted : HeaderRoundTrip payloadRoomWriter reading → ⊥
+unfolding payloadRoomWriter refuseWriting place size bitLength bits bitsIn
+payload-room-writer-refuted claim = omega (arith, ap (λ (w : Written). w .refusal) (claim .readsBack 1 (replicate 4 0) one (lit≤ tt) .0))
 
 pub roomless-writer-refuted : HeaderRoundTrip roomlessWriter reading → ⊥
 unfolding roomlessWriter write reading-opened place size bitLength bits bitsIn

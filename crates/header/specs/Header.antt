@@ -134,9 +134,9 @@ leastPayload = 1
 
 -- "A packet whose payload is empty is refused with 16, after every other header check" (document 02, Eight): an answer for a packet of so many octets
 unfoldable pub withPayload : ℕ → HeaderAnswer → HeaderAnswer
-withPayload octets r =
+withPayload many r =
     if not (eqb (r .refusal) 0) then r
-    else if ltb octets (r .place + leastPayload) then refusedHeader 16
+    else if ltb many (r .place + leastPayload) then refusedHeader 16
     else r
 
 unfoldable pub reading : List ℕ → HeaderAnswer

@@ -5,7 +5,7 @@ use lib.Dec.{eqb, ltb, leb}
 use lib.ListN.{length}
 use Rattle.address.specs.Choice.{if_then_else_}
 use Rattle.octets.specs.Octets.{value}
-use Rattle.header.specs.Header.{mostOctets, fixedOctets, reading, found, refusedHeader, startFault, sizeTold, addressOctets}
+use Rattle.header.specs.Header.{mostOctets, fixedOctets, octetsReading, reading, found, refusedHeader, startFault, sizeTold, addressOctets}
 use Rattle.header.specs.RoundTrip.{HeaderReader}
 
 -- it takes two octets also where the first is zero and one would do; right otherwise
@@ -37,4 +37,10 @@ twoOctetsReader p = if eqb (reading p .refusal) 0 && eqb (length p) (reading p .
 unfoldable pub shortEmptyReader : HeaderReader
 shortEmptyReader p =
     if eqb (startFault p) 0 && leb (sizeTold p) mostOctets && ltb (length p) (fixedOctets + sizeTold p) then refusedHeader 16
+    else reading p
+
+-- it gives the address and the place beside 16; right otherwise
+unfoldable pub besideEmptyReader : HeaderReader
+besideEmptyReader p =
+    if eqb (reading p .refusal) 16 then record { refusal = 16; address = octetsReading p .address; place = octetsReading p .place }
     else reading p

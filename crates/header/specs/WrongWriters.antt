@@ -38,3 +38,7 @@ paddingWriter a buffer =
 -- 10 before 9: it looks for room before it looks at the address; right otherwise
 unfoldable pub roomFirstWriter : HeaderWriter
 roomFirstWriter a buffer = if ltb (length buffer) (place a) then refuseWriting 10 buffer else writing a buffer
+
+-- it wants room for a payload of one octet; right otherwise
+unfoldable pub payloadRoomWriter : HeaderWriter
+payloadRoomWriter a buffer = if eqb (length buffer) (place a) then refuseWriting 10 buffer else writing a buffer

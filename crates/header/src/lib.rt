@@ -122,7 +122,7 @@ fn address_fault(packet: &[u8], size: usize) -> u8
     zero_fault(size, packet[FIXED_OCTETS])
 }
 
-// Reads the header at the front of a packet, which has a payload behind it.
+// Reads the header at the front of a packet; an empty payload behind it is a fault, looked for after every other.
 pub fn read(packet: &[u8]) -> Reading
     ensures { λ r. ⌜ headerAnswer r ≡ reading (now (packet .entry)) ⌝ }
 {

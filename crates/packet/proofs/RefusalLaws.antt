@@ -21,6 +21,7 @@ use Rattle.node.specs.declared.Node.{Node}
 use Rattle.node.proofs.RefusalLaws.{bad-record, not-bad}
 use Rattle.forward.specs.Forward.{HopAnswer, refusedHop, nextHop}
 use Rattle.forward.specs.Refusals.{ChildNotGiven, hopOrder}
+use Rattle.forward.proofs.Rules.{nextHop-most}
 use Rattle.forward.proofs.RefusalLaws.{first-hop, hop-refusals}
 use Rattle.packet.specs.Packet.{packetHop}
 use Rattle.packet.specs.Refusals.{packetOrder, PacketRefusals}
@@ -107,20 +108,10 @@ packet-refusals = record {
 
 -- ---- 16 is a good record's, and the reading's
 
-no-hop-sixteen : (n : Node) (d : ℕ) → First (hopOrder n d) 16 → ⊥
-no-hop-sixteen n d (inl (bad, e)) = omega arith
-no-hop-sixteen n d (inr (good, inl (zero-address, e))) = omega arith
-no-hop-sixteen n d (inr (good, inr (some, inl (absent, e)))) = omega arith
-no-hop-sixteen n d (inr (good, inr (some, inr (given, e)))) = omega arith
-
-pub sixteen-hop : (n : Node) (p : List ℕ) → addressIn n < 2 ^ longest → AreOctets p → packetHop n p .refusal ≡ 16
-    → (isGood n ≡ true) × (reading p .refusal ≡ 16)
-sixteen-hop n p f are e = go (isGood n) refl (ℕ-discrete (reading p .refusal) 0)
+pub sixteen-hop : (n : Node) (p : List ℕ) → packetHop n p .refusal ≡ 16 → (isGood n ≡ true) × (reading p .refusal ≡ 16)
+sixteen-hop n p e = go (isGood n) refl (ℕ-discrete (reading p .refusal) 0)
   where
     go : (t : Bool) → isGood n ≡ t → Dec (reading p .refusal ≡ 0) → (isGood n ≡ true) × (reading p .refusal ≡ 16)
     go false g d = absurd (omega (arith, number (packetHop-bad n p g)))
     go true g (no h) = (g, sym (by-reading n p g h) ∙ e)
-    go true g (yes z) =
-        let a = header-read p (reading p .address) (reading p .place) are (found-answer p z) .0 in
-        let sixteen = sym (number (by-address n p g z)) ∙ e in
-        absurd (no-hop-sixteen n (reading p .address) (hop-refusals .given n (reading p .address) f (a .fits) 16 .0 sixteen))
+    go true g (yes z) = absurd (omega (arith, nextHop-most n (reading p .address), number (by-address n p g z)))

@@ -1,5 +1,5 @@
--- The reading before 1 is refuted by its answer to no octets at a record of address zero. The rules for an empty packet are refuted at one record and
--- the header of one address, where they answer as for the address: with something else than 16.
+-- The reading before 1 is refuted by its answer to no octets at a record of address zero. What the rules for an empty packet answer to a header alone is
+-- worked out here, and that demand 1 leaves 16: by that and by demand 3 they are refuted in tree.
 use mathlib.Core.Path.{_≡_, sym, ap, _∙_}
 use mathlib.Core.Bool.{true}
 use mathlib.Core.List.{List, []}

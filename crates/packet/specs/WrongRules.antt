@@ -34,6 +34,6 @@ emptyDelivered n p =
 unfoldable pub notGivenFirst : Node → List ℕ → HopAnswer
 notGivenFirst n p = if eqb (emptyGoes n p .refusal) 7 then refusedHop 7 else packetHop n p
 
--- it is refused at the node that it is for and nowhere else: until there it goes as its address says
+-- it is refused with 16 at the node that it is for and nowhere else: until there it goes as its address says
 unfoldable pub emptyLate : Node → List ℕ → HopAnswer
 emptyLate n p = if eqb (octetsReading p .address) (addressIn n) then packetHop n p else emptyGoes n p
