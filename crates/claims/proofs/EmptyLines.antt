@@ -3,7 +3,7 @@ use Prim.Native.Nat.{ℕ}
 use mathlib.Core.Path.{_≡_, refl, sym, ap, _∙_}
 use mathlib.Core.Bool.{Bool, true, false}
 use mathlib.Core.Logic.{_↔_}
-use mathlib.Core.List.{List}
+use mathlib.Core.List.{List, _++_}
 use Rattle.address.specs.Bits.{bits, bitsIn, lastBit, number, numberFrom, digit}
 use Rattle.address.specs.Steps.{stepsOf, cut, lastStep, steps, addressOf, spelled}
 use Rattle.address.specs.Address.{bitLength, isHost, endsInOne, parent, above}
@@ -15,7 +15,8 @@ use Rattle.header.proofs.Opened.{reading-opened}
 use Rattle.header.proofs.Demand2.{reading-header, reading-alone, sixteen-exactly, found-exactly, wrote-alone}
 use Rattle.header.proofs.Payload.{refused-stand, accepted-more, accepted-stand, accepted-empty}
 use Rattle.header.proofs.RefusalLaws.{octets-given, octets-beside, octets-accepted}
-use Rattle.header.proofs.WrongReaders.{octets-reader-refuted, empty-first-reader-refuted, two-octets-reader-refuted, short-empty-reader-refuted}
+use Rattle.header.proofs.WrongReaders.{octets-reader-refuted, empty-first-reader-refuted, two-octets-reader-refuted, short-empty-reader-refuted, beside-empty-reader-refuted}
+use Rattle.header.proofs.WrongWriters.{payload-room-writer-refuted}
 use Rattle.node.specs.declared.Node.{Node}
 use Rattle.node.specs.Node.{isGood}
 use Rattle.node.specs.Refusals.{IsBad}
@@ -27,7 +28,7 @@ use Rattle.packet.specs.Packet.{packetHop}
 use Rattle.packet.proofs.PacketHops.{packetHop-bad, packetHop-refused, packetHop-found}
 use Rattle.packet.proofs.RefusalLaws.{sixteen-hop}
 use Rattle.packet.proofs.OneRule.{one-packet-rule}
-use Rattle.packet.proofs.Before.{emptyGoes-bad, emptyGoes-refused, emptyGoes-found, hop-stands, hop-more}
+use Rattle.packet.proofs.Before.{emptyGoes-bad, emptyGoes-refused, emptyGoes-found, hop-stands, hop-more, hop-accepted, hop-empty}
 use Rattle.tree.proofs.WrongEmpties.{emptyGoes-misnumbers, emptyDelivered-misnumbers, notGivenFirst-misnumbers, emptyLate-misnumbers, emptyGoes-refuted, emptyDelivered-refuted, notGivenFirst-refuted, emptyLate-refuted}
 use Rattle.claims.specs.Empty.{LaidOut, NoEmptyPackets, SinceBefore, EmptyOfAny, ValuesOfEight, WrongOfEight}
 
@@ -38,8 +39,8 @@ is-bad n bad = go (isGood n) refl
     go true g = absurd (not-bad n g bad)
     go false g = g
 
-with-payload : (n : Node) {p : List ℕ} {a k : ℕ} → reading p ≡ found a k → packetHop n p ≡ nextHop n a
-with-payload n {p} {a} e = go (isGood n) refl
+with-payload : (n : Node) (p : List ℕ) {a k : ℕ} → reading p ≡ found a k → packetHop n p ≡ nextHop n a
+with-payload n p {a} e = go (isGood n) refl
   where
     go : (t : Bool) → isGood n ≡ t → packetHop n p ≡ nextHop n a
     go true g = packetHop-found n p g e
@@ -52,8 +53,8 @@ no-empty-packets = record {
   writtenAlone = λ a buffer n e. ap reading (wrote-alone a buffer n e .1) ∙ reading-alone n;
   atANode = λ n a good address. packetHop-refused n (header a) (good-records n .1 good) (reading-alone address);
   atABadRecord = λ n p bad. packetHop-bad n p (is-bad n bad);
-  nothingElse = λ n p fits are e. let (good, sixteen) = sixteen-hop n p fits are e in (good-records n .0 good, sixteen-exactly p are .0 sixteen);
-  withAPayload = λ n a payload address some. with-payload n (reading-header address payload some);
+  nothingElse = λ n p are e. let (good, sixteen) = sixteen-hop n p e in (good-records n .0 good, sixteen-exactly p are .0 sixteen);
+  withAPayload = λ n a payload address some. with-payload n (header a ++ payload) (reading-header address payload some);
 }
 
 -- an accepted header, laid out
@@ -79,6 +80,8 @@ since-before = record {
   );
   hopStands = hop-stands;
   hopOfOneMore = λ n p o e. hop-more n p o e;
+  hopAccepted = hop-accepted;
+  hopEmpty = λ n p good. hop-empty n p (good-records n .1 good);
 }
 
 pub empty-of-any : EmptyOfAny
@@ -132,6 +135,8 @@ wrong-of-eight = record {
   wantingTwoOctets = two-octets-reader-refuted;
   withEmptyFirst = empty-first-reader-refuted;
   withShortOnesEmpty = short-empty-reader-refuted;
+  withAnAddressBeside = beside-empty-reader-refuted;
+  wantingPayloadRoom = payload-room-writer-refuted;
   thatPassesOn = emptyGoes-misnumbers;
   thatDelivers = emptyDelivered-misnumbers;
   withNotGivenFirst = notGivenFirst-misnumbers;

@@ -13,7 +13,8 @@ use Rattle.octets.specs.Octets.{AreOctets, value, wrote}
 use Rattle.header.specs.Header.{place, header, writing, octetsReading, reading, found, refusedHeader}
 use Rattle.header.specs.RoundTrip.{HeaderWriter, HeaderReader, HeaderRoundTrip}
 use Rattle.header.specs.Refusals.{HeaderReadRefusals}
-use Rattle.header.specs.WrongReaders.{emptyFirstReader, twoOctetsReader, shortEmptyReader}
+use Rattle.header.specs.WrongReaders.{emptyFirstReader, twoOctetsReader, shortEmptyReader, besideEmptyReader}
+use Rattle.header.specs.WrongWriters.{payloadRoomWriter}
 use Rattle.node.specs.Node.{addressIn, fresh, withCounts, childOf, setLimit}
 use Rattle.node.specs.Refusals.{IsGood, IsBad}
 use Rattle.node.specs.declared.Node.{Node}
@@ -43,14 +44,14 @@ pub record NoEmptyPackets : Type 0 where
   -- "and before any next-hop answer": whatever the address is to this node; only a bad record comes before
   pub atANode : (n : Node) (a : ℕ) → IsGood n → IsAddress a → packetHop n (header a) ≡ refusedHop 16
   pub atABadRecord : (n : Node) (p : List ℕ) → IsBad n → packetHop n p ≡ refusedHop 1
-  pub nothingElse : (n : Node) (p : List ℕ) → addressIn n < 2 ^ 64 → AreOctets p → packetHop n p .refusal ≡ 16
+  pub nothingElse : (n : Node) (p : List ℕ) → AreOctets p → packetHop n p .refusal ≡ 16
       → IsGood n × ((a : ℕ) × IsAddress a × (p ≡ header a))
   -- and with a payload it is the answer for the address
   pub withAPayload : (n : Node) (a : ℕ) (payload : List ℕ) → IsAddress a → 0 < length payload → packetHop n (header a ++ payload) ≡ nextHop n a
 
 -- `octetsReading` was the reading before this request, and `emptyGoes` the next hop from a packet
 pub record SinceBefore : Type 0 where
-  -- what it answered: 16 is in its order no more than a payload is in what it took
+  -- what it answered: it took whatever was behind the address's octets, also nothing
   pub givenBefore : (p : List ℕ) → GivenExactly (octetsOrder p) (octetsReading p .refusal)
   pub besideBefore : (p : List ℕ) → (octetsReading p .refusal ≡ 0 → ⊥) → (octetsReading p .address ≡ 0) × (octetsReading p .place ≡ 0)
   pub takenBefore : (p : List ℕ) → octetsReading p .refusal ≡ 0
@@ -62,12 +63,15 @@ pub record SinceBefore : Type 0 where
   -- those that had one stand, and those that had none are refused with 16
   pub acceptedStand : (p : List ℕ) → octetsReading p .refusal ≡ 0 → octetsReading p .place < length p → reading p ≡ octetsReading p
   pub acceptedEmpty : (p : List ℕ) → octetsReading p .refusal ≡ 0 → length p ≤ octetsReading p .place → reading p ≡ refusedHeader 16
-  -- and the same of the next hop
+  -- what the next hop from a packet was, and the same four lines of it
   pub hopBefore : (n : Node) (p : List ℕ) → (IsBad n → emptyGoes n p ≡ refusedHop 1)
       × (IsGood n → (octetsReading p .refusal ≡ 0 → ⊥) → emptyGoes n p ≡ refusedHop (octetsReading p .refusal))
       × (IsGood n → octetsReading p .refusal ≡ 0 → emptyGoes n p ≡ nextHop n (octetsReading p .address))
   pub hopStands : (n : Node) (p : List ℕ) → (octetsReading p .refusal ≡ 0 → ⊥) → packetHop n p ≡ emptyGoes n p
   pub hopOfOneMore : (n : Node) (p : List ℕ) (o : ℕ) → octetsReading p .refusal ≡ 0 → packetHop n (p ++ (o ∷ [])) ≡ emptyGoes n p
+  pub hopAccepted : (n : Node) (p : List ℕ) → octetsReading p .refusal ≡ 0 → octetsReading p .place < length p → packetHop n p ≡ emptyGoes n p
+  pub hopEmpty : (n : Node) (p : List ℕ) → IsGood n → octetsReading p .refusal ≡ 0 → length p ≤ octetsReading p .place
+      → packetHop n p ≡ refusedHop 16
 
 -- what the statements say of any writer and reader, and of any rule for the next hop from a packet; demand 1 leaves one reader (Excluded,
 -- `OneHeaderRule.toRead`), and one rule for octets and records of 64 bits
@@ -120,7 +124,7 @@ pub record ValuesOfEight : Type 0 where
   pub wrongStart : reading (0xF1 ∷ 0x80 ∷ 0x0E ∷ 0x3E ∷ []) ≡ refusedHeader 5
   pub sizeOfNine : reading (0xF1 ∷ 0x88 ∷ 0x0F ∷ 0x3E ∷ 0 ∷ 0 ∷ 0 ∷ 0 ∷ 0 ∷ 0 ∷ 0 ∷ 0 ∷ []) ≡ refusedHeader 6
   pub singleZero : reading (0xF1 ∷ 0x80 ∷ 0x0F ∷ 0x00 ∷ []) ≡ refusedHeader 9
-  -- of a first zero and nothing behind see `aZeroInFront` there; both with an octet more
+  -- of a first zero and nothing behind see Excluded, `ValuesOfThree.aZeroInFront`; both with an octet more
   pub singleZeroAndMore : (o : ℕ) → reading (0xF1 ∷ 0x80 ∷ 0x0F ∷ 0x00 ∷ o ∷ []) ≡ refusedHeader 9
   pub firstZeroAndMore : (o : ℕ) → reading (0xF1 ∷ 0x81 ∷ 0x0F ∷ 0x00 ∷ 0x3E ∷ o ∷ []) ≡ refusedHeader 6
   -- 1 before 16, at a record of address zero; and no octets at the root are 4
@@ -141,11 +145,14 @@ pub record WrongOfEight : Type 0 where
   -- a reader that takes an empty payload, as it was right before; one that wants two octets
   pub takingEmptyOnes : HeaderRoundTrip writing octetsReading → ⊥
   pub wantingTwoOctets : HeaderRoundTrip writing twoOctetsReader → ⊥
-  -- 16 before 9, and before 6 of a first zero; 16 before 4
+  -- 16 before 9, and before 6 of a first zero; 16 before 4; an address and a place beside 16
   pub withEmptyFirst : HeaderReadRefusals emptyFirstReader → ⊥
   pub withShortOnesEmpty : HeaderReadRefusals shortEmptyReader → ⊥
-  -- a rule by which an empty packet goes as its address says, as it was right before; one that delivers it at its own node; 7 before 16; one that refuses it at its own
-  -- node and nowhere else
+  pub withAnAddressBeside : HeaderReadRefusals besideEmptyReader → ⊥
+  -- "writing a header is unchanged": a writer that wants room for a payload
+  pub wantingPayloadRoom : HeaderRoundTrip payloadRoomWriter reading → ⊥
+  -- a rule by which an empty packet goes as its address says, as it was right before; one that delivers it at its own node; 7 before 16; one that
+  -- refuses it with 16 at its own node and nowhere else
   pub thatPassesOn : PacketRefusals emptyGoes → ⊥
   pub thatDelivers : PacketRefusals emptyDelivered → ⊥
   pub withNotGivenFirst : PacketRefusals notGivenFirst → ⊥
