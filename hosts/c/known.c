@@ -392,8 +392,8 @@ static void headers(void)
     same("the header of 111110: its octets", written.count, 4);
     same("the header of 111110: the refusal", written.refusal, PASA_DONE);
     same_octets("the header of 111110, and two behind it", out, known, sizeof known);
-    read_as("the header of 111110", known, 5, bits("111110"), 4, PASA_DONE);
-    read_as("the header of 111110 with a payload", known, 6, bits("111110"), 4, PASA_DONE);
+    read_as("the header of 111110 and one octet", known, 5, bits("111110"), 4, PASA_DONE);
+    read_as("the header of 111110 and two octets", known, 6, bits("111110"), 4, PASA_DONE);
     same("the header of 255: its octets", pasa_header_write(255, out, sizeof out).count, 4);
     same("the header of 256: its octets", pasa_header_write(256, out, sizeof out).count, 5);
     same("the header of 65,535: its octets", pasa_header_write(65535, out, sizeof out).count, 5);

@@ -124,7 +124,7 @@ local function read_size(tvb)
     return octet(tvb, 1) % (SIZE_BITS + 1) + 1
 end
 
--- "A packet whose payload is empty is refused with 16". The packet's own length says so, and not the capture's, which may have cut a payload off.
+-- "A packet whose payload is empty is refused with 16". The packet's own length says so, and not the capture's, which may have cut one off.
 local function payload_fault(tvb, place)
     return tvb:reported_len() == place and EMPTY or DONE
 end

@@ -95,7 +95,7 @@ impl Random {
         }
     }
 
-    /// A packet: valid, with an empty payload or with some octets of it, or one octet damaged, cut off, or of any octets.
+    /// A packet: a right header with none to three octets behind it; or one octet of it damaged, cut off, or any octets.
     fn packet(&mut self, address: u64) -> Vec<u8> {
         let payload = self.below(4);
         let mut packet = document::header(address.max(1));

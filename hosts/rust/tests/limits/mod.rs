@@ -203,7 +203,7 @@ impl Trees {
             let node = &self.crates[met.last().unwrap()];
             match node.packet_next_hop(packet) {
                 Ok(Hop::Deliver(named)) => {
-                    assert_eq!(Some(&named.number()), met.last(), "a delivery from {from:#b} of {} names another node", shown(packet));
+                    assert_eq!(Some(&named.number()), met.last(), "a delivery from {from:#b} of {}names another node", shown(packet));
                     return (met, 0);
                 }
                 Ok(Hop::Parent(next) | Hop::Child(next)) => met.push(next.number()),
