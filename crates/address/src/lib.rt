@@ -2,6 +2,8 @@
 //
 // What an address is stands in specs/Bits.antt (numbers and bit strings) and specs/Steps.antt (bit strings and steps). Zero is no address:
 // it stands in an answer beside a refusal, and each function says what it answers for it.
+#![tactic(auto)]
+
 ghost use Rattle.std.specs.Prelude.{◌≡◌};
 ghost use Rattle.address.specs.Bits.{longest, root};
 ghost use Rattle.address.specs.Address.{made_answer, made, bit_length, is_host, depth, parent};
@@ -10,19 +12,19 @@ ghost use Rattle.address.specs.Address.{made_answer, made, bit_length, is_host, 
 pub const ZERO_ADDRESS: u8 = 9;
 
 // What a step leads to, and what a child is.
-#[derive(Drop)]
+#[derive(Clone, Copy)]
 pub enum Kind {
     Router,
     Host,
 }
 
-#[derive(Drop)]
+#[derive(Clone, Copy)]
 pub struct Address {
     pub number: u64,
 }
 
 // What making an address from a number answers.
-#[derive(Drop)]
+#[derive(Clone, Copy)]
 pub enum Made {
     Valid(Address),
     Refused(u8),

@@ -3,6 +3,7 @@
 // Each is promised to be what a single call answers. The rules stand here once more, as a function that has the loop for its only caller: the
 // compiler takes it into the loop, and what the rules ask of the node alone out of it. A call of `forward::next_hop` for each destination
 // takes up to twice as long.
+#![tactic(auto)]
 ghost use Rattle.std.specs.Prelude.{◌≡◌, true, false, ◌%◌, eqb, drop};
 ghost use Rattle.address.specs.Choice.{if◌then◌else◌};
 ghost use Rattle.address.specs.Bits.{bits};
@@ -30,7 +31,7 @@ pub const TO_CHILD: u8 = 3;
 // What a next hop answers: the node passed to, on delivery the node itself, 0 in a refusal; the refusal's number, 0 where there is none;
 // and what becomes of the packet.
 #[repr(C)]
-#[derive(Drop)]
+#[derive(Clone, Copy)]
 pub struct PasaHop {
     pub node: u64,
     pub refusal: u8,

@@ -1,4 +1,5 @@
 // The next hop from an address: specs/Forward.antt has the rules, their order and the refusals.
+#![tactic(auto)]
 ghost use Rattle.std.specs.Prelude.{◌≡◌, true, false, ◌%◌, eqb, drop};
 ghost use Rattle.address.specs.Choice.{if◌then◌else◌};
 ghost use Rattle.address.specs.Bits.{bits};
@@ -15,7 +16,7 @@ use node::Node;
 pub const CHILD_NOT_GIVEN: u8 = 7;
 
 // What a next hop answers: deliver here, at the address named; pass to the parent or to the child named; or a refusal.
-#[derive(Drop)]
+#[derive(Clone, Copy)]
 pub enum Hop {
     Deliver(Address),
     Parent(Address),

@@ -1,4 +1,5 @@
 // The packet header: what the octets are, in which order they are checked and what each fault is numbered, stands in specs/Header.antt.
+#![tactic(auto)]
 ghost use Rattle.std.specs.Prelude.{◌≡◌, ◌≤◌};
 ghost use Rattle.header.specs.Header.{size, writing, header_answer, reading, start_fault, zero_fault, address_fault};
 
@@ -30,7 +31,7 @@ const MOST_OCTETS: usize = 8;
 const LEAST_PAYLOAD: usize = 1;
 
 // What reading a header answers: the address and the place where the payload begins, or a refusal.
-#[derive(Drop)]
+#[derive(Clone, Copy)]
 pub enum Reading {
     Found(Address, usize),
     Refused(u8),

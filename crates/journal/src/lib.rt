@@ -1,5 +1,6 @@
 // The journal of a hall: specs/Replay.antt and specs/Slots.antt say what its slots come to, specs/Recovery.antt and specs/Writing.antt what recovery
 // and the writer answer.
+#![tactic(auto)]
 ghost use Rattle.std.specs.Prelude.{◌≡◌, true, false, ◌∷◌, [], ◌++◌, ◌≤◌, ◌<◌, ◌+◌, ◌-◌, min, length, take, drop, replicate};
 ghost use Rattle.address.specs.declared.Kind.TheVariants.{Router, Host};
 ghost use Rattle.node.specs.Node.{fresh};
@@ -35,14 +36,14 @@ pub const MOST_NODES: usize = 4096;
 const ERASED: u8 = 0xFF;
 
 // What recovery answers: a refusal's number, 0 where the nodes are listed, and their number, 0 with a refusal.
-#[derive(Drop)]
+#[derive(Clone, Copy)]
 pub struct Recovered {
     pub refusal: u8,
     pub nodes: usize,
 }
 
 // What the writer answers: a refusal's number, 0 where the block is written, and its slot, counted from 0; 0 with a refusal.
-#[derive(Drop)]
+#[derive(Clone, Copy)]
 pub struct Placed {
     pub refusal: u8,
     pub slot: usize,
@@ -50,7 +51,7 @@ pub struct Placed {
 
 // How far a journal is taken: the next slot; how many slots are not erased; the nodes known, at the front of the words; the first fault, 0 where
 // there is none; and whether nothing is left to take.
-#[derive(Drop)]
+#[derive(Clone, Copy)]
 pub struct Progress {
     pub slot: usize,
     pub written: usize,
@@ -60,7 +61,7 @@ pub struct Progress {
 }
 
 // A node's record, and whether it was found.
-#[derive(Drop)]
+#[derive(Clone, Copy)]
 pub struct Record {
     pub node: Node,
     pub found: bool,
@@ -416,7 +417,7 @@ pub fn write(journal: &mut [u8], addresses: &[u64]) -> Placed
 }
 
 // Children counted by their kind.
-#[derive(Drop)]
+#[derive(Clone, Copy)]
 struct Counts {
     routers: u8,
     hosts: u8,

@@ -1,4 +1,5 @@
 // The path program's work, from the octets of its input to those of its output: specs/Line.antt has both texts.
+#![tactic(auto)]
 mod read;
 mod write;
 

@@ -10,14 +10,14 @@ use address::Address;
 const LONGEST: usize = Address::LONGEST as usize;
 
 // A run of binary digits: the place behind it, and a number.
-#[derive(Drop)]
+#[derive(Clone, Copy)]
 pub(crate) struct Run {
     pub(crate) end: usize,
     pub(crate) number: u64,
 }
 
 // The two addresses of the input, both 0 where it is not the one line.
-#[derive(Drop)]
+#[derive(Clone, Copy)]
 pub(crate) struct Ends {
     pub(crate) first: u64,
     pub(crate) second: u64,

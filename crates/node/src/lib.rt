@@ -1,5 +1,6 @@
 // A node's record, the request for a child and the setting of a limit: specs/Node.antt says which records are good, which address a child gets
 // and when a request or a setting is refused.
+#![tactic(auto)]
 ghost use Rattle.std.specs.Prelude.{◌≡◌, ◌<◌};
 ghost use Rattle.address.specs.Bits.{digit};
 ghost use Rattle.address.specs.Steps.{last_of};
@@ -20,14 +21,14 @@ pub const TOO_LONG: u8 = 3;
 pub const NO_CAP: u8 = 64;
 
 // How many children of each kind a node may give.
-#[derive(Drop)]
+#[derive(Clone, Copy)]
 pub struct Limits {
     pub routers: u8,
     pub hosts: u8,
 }
 
 // An address with the children of each kind given so far, and its limits.
-#[derive(Drop)]
+#[derive(Clone, Copy)]
 pub struct Node {
     pub address: Address,
     pub routers: u8,
@@ -36,7 +37,7 @@ pub struct Node {
 }
 
 // What a request for a child answers: the record to go on with, the child's address and the refusal's number, 0 where the child is given.
-#[derive(Drop)]
+#[derive(Clone, Copy)]
 pub struct Given {
     pub node: Node,
     pub child: Address,
@@ -44,7 +45,7 @@ pub struct Given {
 }
 
 // What a setting of a limit answers: the record to go on with and the refusal's number, 0 where the limit is set.
-#[derive(Drop)]
+#[derive(Clone, Copy)]
 pub struct Limited {
     pub node: Node,
     pub refusal: u8,

@@ -1,5 +1,6 @@
 // The older fields of NSA: payload length, source and destination in a row. What the octets are, in which order they are checked and what each
 // fault is numbered, stands in specs/Fields.antt.
+#![tactic(auto)]
 ghost use Rattle.std.specs.Prelude.{◌≡◌, ◌∷◌, ◌+◌, ◌-◌, ◌^◌, ◌≤◌, ◌<◌, length};
 ghost use Rattle.octets.specs.Octets.{octets, AreOctets};
 ghost use Rattle.nsa.specs.Fields.{length_field, long_octets, address_field, writing, refused_field, number_reading, length_reading, counted_reading, address_reading, fields_answer, reading};
@@ -29,7 +30,7 @@ const THIRD_MARK: u8 = 255;
 const LEFT_OUT: u64 = 252;
 
 // The three numbers.
-#[derive(Drop)]
+#[derive(Clone, Copy)]
 pub struct Fields {
     pub length: u64,
     pub source: Address,
@@ -37,14 +38,14 @@ pub struct Fields {
 }
 
 // What reading the fields answers: the three numbers and the place after them, or a refusal.
-#[derive(Drop)]
+#[derive(Clone, Copy)]
 pub enum Reading {
     Found(Fields, usize),
     Refused(u8),
 }
 
 // What reading one field answers: a refusal's number, 0 where it is done; the number read and how many octets it took, both 0 in a refusal.
-#[derive(Drop)]
+#[derive(Clone, Copy)]
 struct Field {
     refusal: u8,
     number: u64,

@@ -59,7 +59,7 @@ unfolding joined
 joined-lt {n} {m} [] all h = omega arith
 joined-lt {n} {m} (o ∷ os) all h =
     subst (λ (p : ℕ). joined (n * 256 + o) os < p) (mul_assoc m 256 (256 ^ length os) ∙ ap (λ (p : ℕ). m * p) (sym (pow-succ' 256 (length os))))
-    (joined-lt os all.1 (digits_lt h all.0))
+    (joined-lt {n = n * 256 + o} {m = m * 256} os all.1 (digits_lt h all.0))
 
 pub value-lt : (os : List ℕ) → AreOctets os → value os < 256 ^ length os
 unfolding value

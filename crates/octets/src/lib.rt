@@ -1,9 +1,11 @@
 // Numbers as octets, most significant first, in a lent slice of any length.
+#![tactic(auto)]
+
 ghost use Rattle.std.specs.Prelude.{◌≡◌, ◌%◌, ◌^◌, length};
 ghost use Rattle.octets.specs.Octets.{octets, value};
 
 // What writing into a lent buffer answers: a refusal's number, 0 where it is done, and how many octets were written, 0 in a refusal.
-#[derive(Drop)]
+#[derive(Clone, Copy)]
 pub struct Written {
     pub refusal: u8,
     pub count: usize,

@@ -10,7 +10,7 @@ use octets::Written;
 
 // What writing into a lent buffer answers: how many octets were written, 0 in a refusal, and the refusal's number, 0 where it is done.
 #[repr(C)]
-#[derive(Drop)]
+#[derive(Clone, Copy)]
 pub struct PasaWritten {
     pub count: usize,
     pub refusal: u8,
@@ -18,7 +18,7 @@ pub struct PasaWritten {
 
 // What reading a header answers: the address, the place where the payload begins, both 0 in a refusal, and the refusal's number.
 #[repr(C)]
-#[derive(Drop)]
+#[derive(Clone, Copy)]
 pub struct PasaRead {
     pub address: u64,
     pub place: usize,
@@ -27,7 +27,7 @@ pub struct PasaRead {
 
 // What reading an IPv6 form answers: the address, 0 in a refusal, and the refusal's number.
 #[repr(C)]
-#[derive(Drop)]
+#[derive(Clone, Copy)]
 pub struct PasaAddress {
     pub address: u64,
     pub refusal: u8,

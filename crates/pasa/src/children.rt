@@ -9,7 +9,7 @@ use node::{Given, Limited, Limits, Node};
 
 // An address with the children of each kind given so far, and the limits on them.
 #[repr(C)]
-#[derive(Drop)]
+#[derive(Clone, Copy)]
 pub struct PasaNode {
     pub address: u64,
     pub routers: u8,
@@ -21,7 +21,7 @@ pub struct PasaNode {
 // What a request for a child answers: the record to go on with, the child's address, 0 in a refusal, and the refusal's number, 0 where the
 // child is given.
 #[repr(C)]
-#[derive(Drop)]
+#[derive(Clone, Copy)]
 pub struct PasaChild {
     pub node: PasaNode,
     pub child: u64,
@@ -30,7 +30,7 @@ pub struct PasaChild {
 
 // What a setting of a limit answers: the record to go on with, and the refusal's number, 0 where the limit is set.
 #[repr(C)]
-#[derive(Drop)]
+#[derive(Clone, Copy)]
 pub struct PasaLimited {
     pub node: PasaNode,
     pub refusal: u8,

@@ -12,7 +12,7 @@ use nsa::Reading;
 // What reading the older fields answers: the payload length, the source, the destination and the place after them, all 0 in a refusal, and the
 // refusal's number.
 #[repr(C)]
-#[derive(Drop)]
+#[derive(Clone, Copy)]
 pub struct PasaNsa {
     pub length: u64,
     pub source: u64,

@@ -12,7 +12,7 @@ use journal::Record;
 
 // What writing a block answers: its slot, counted from 0, 0 in a refusal; and the refusal's number, 0 where the block is written.
 #[repr(C)]
-#[derive(Drop)]
+#[derive(Clone, Copy)]
 pub struct PasaBlock {
     pub slot: usize,
     pub refusal: u8,
@@ -20,7 +20,7 @@ pub struct PasaBlock {
 
 // What recovery answers: the nodes recovered, 0 in a refusal; and the refusal's number, 0 where they are listed.
 #[repr(C)]
-#[derive(Drop)]
+#[derive(Clone, Copy)]
 pub struct PasaRecovered {
     pub nodes: usize,
     pub refusal: u8,
@@ -28,7 +28,7 @@ pub struct PasaRecovered {
 
 // A node's record and 1, or all zeros where it is not found.
 #[repr(C)]
-#[derive(Drop)]
+#[derive(Clone, Copy)]
 pub struct PasaRecord {
     pub node: PasaNode,
     pub found: u8,

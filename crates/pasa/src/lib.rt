@@ -3,6 +3,7 @@
 // Each promise cites the definition of the function below it (`child_of`, `set_limit`, `next_hop`, `packet_hop`, `writing`, `reading`, `listing`,
 // `planning`, `recovering`), through the definitions of specs/ that turn a record or an answer into the struct exported. An address is a plain
 // 64-bit number here, and zero in its place is refused as the crates below refuse it.
+#![tactic(auto)]
 pub mod addresses;
 pub mod bytes;
 pub mod children;

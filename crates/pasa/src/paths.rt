@@ -8,7 +8,7 @@ use address::Address;
 // What the path call answers: the hops, one fewer than the addresses listed, 0 in a refusal, and the refusal's number, 0 where the path is
 // listed.
 #[repr(C)]
-#[derive(Drop)]
+#[derive(Clone, Copy)]
 pub struct PasaListed {
     pub hops: u32,
     pub refusal: u8,

@@ -6,7 +6,7 @@ ghost use Rattle.pasa.specs.Plans.{pasa_plan};
 // What reading a plan answers: the nodes of its hall, 0 in a refusal; the place of the fault, 0 but with refusal 13; and the refusal's number, 0
 // where the hall is listed.
 #[repr(C)]
-#[derive(Drop)]
+#[derive(Clone, Copy)]
 pub struct PasaPlan {
     pub nodes: usize,
     pub place: usize,

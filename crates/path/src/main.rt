@@ -1,4 +1,5 @@
 // The path program: one line of two addresses in, the path between them out.
+#![tactic(auto)]
 use libc::{STDIN_FILENO, STDOUT_FILENO};
 
 fn main() {

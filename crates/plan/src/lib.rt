@@ -1,4 +1,5 @@
 // A hall's plan, read into lent words: specs/Grammar.antt has the text, specs/Hall.antt the addresses, specs/Plan.antt the refusals.
+#![tactic(auto)]
 ghost use Rattle.std.specs.Prelude.{◌≡◌, true, false, ◌∷◌, [], ◌+◌, ◌<◌, ◌≤◌, ◌^◌, length, drop, set, get_or};
 ghost use Rattle.plan.specs.Grammar.{closing};
 ghost use Rattle.plan.specs.Reading.{inside};
@@ -24,7 +25,7 @@ const MOST_GROUPS: u32 = 64;
 
 // What the reading of a plan answers: a refusal's number, 0 where the hall is listed; its nodes; and with BAD_PLAN the place of the fault. The
 // numbers that do not belong to the answer are 0.
-#[derive(Drop)]
+#[derive(Clone, Copy)]
 pub struct Planned {
     pub refusal: u8,
     pub nodes: usize,
@@ -33,7 +34,7 @@ pub struct Planned {
 
 // How far the text is read: the place of the next byte, or of the fault where it has stopped; the nodes before it; and how many of them have
 // no address, since it would be too long.
-#[derive(Drop)]
+#[derive(Clone, Copy)]
 struct Progress {
     place: usize,
     nodes: usize,
@@ -42,7 +43,7 @@ struct Progress {
 }
 
 // What an item leaves: the progress, and the record of the group's node as it stands behind the item.
-#[derive(Drop)]
+#[derive(Clone, Copy)]
 struct AfterItem {
     progress: Progress,
     node: Node,

@@ -1,5 +1,6 @@
 // The reader of a journal: it keeps hold of the lent slice and of its place, and answers a slot at a time. specs/Reader.antt says what it answers,
 // specs/SameAnswers.antt that from the first slot on this is what recovery gives.
+#![tactic(auto)]
 ghost use Rattle.std.specs.Prelude.{◌≡◌, ◌≤◌, ◌<◌, length};
 ghost use Rattle.journal.specs.Limits.{most_nodes};
 ghost use Rattle.journal.specs.Slots.{slot_count};
@@ -11,14 +12,14 @@ use address::Address;
 use journal::{Progress, Recovered};
 
 // "a reader that keeps hold of the lent journal and its place": the place is the number of the next slot.
-#[derive(Drop)]
+#[derive(Clone, Copy)]
 pub struct Reader<'a> {
     pub journal: &'a [u8],
     pub slot: usize,
 }
 
 // What the reader answers for a slot: itself, moved on, and how far the journal is taken.
-#[derive(Drop)]
+#[derive(Clone, Copy)]
 pub struct Taken<'a> {
     pub reader: Reader<'a>,
     pub progress: Progress,

@@ -1,4 +1,5 @@
 // The path between two addresses, into lent words: specs/Path.antt says what it is.
+#![tactic(auto)]
 ghost use Rattle.std.specs.Prelude.{◌≡◌, reverse, ◌+◌, ◌*◌, ◌<◌, length};
 ghost use Rattle.address.specs.Bits.{bits, number};
 ghost use Rattle.address.specs.Steps.{steps};
@@ -13,14 +14,14 @@ pub const NO_ROOM: u8 = 10;
 
 // What the path call answers: a refusal's number, 0 where the path is listed, and its hops, one fewer than the addresses listed; 0 in a
 // refusal.
-#[derive(Drop)]
+#[derive(Clone, Copy)]
 pub struct Listed {
     pub refusal: u8,
     pub hops: u32,
 }
 
 // The hops of a path: up to its turning point, and down from there.
-#[derive(Drop)]
+#[derive(Clone, Copy)]
 struct Ways {
     up: u32,
     down: u32,

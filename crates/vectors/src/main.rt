@@ -29,6 +29,7 @@
 // A line without ` = ` is `not read` and DIFFERS, and a command that is not named here has the answer `not read`. Arguments are not judged: a
 // number goes as far as its digits do, one that is left out is 0, a count and the limit behind it are taken modulo 256, at most 512 octets are
 // read, and what is typed behind the last argument of a command is passed over.
+#![tactic(auto)]
 mod answer;
 mod commands;
 mod read;

@@ -2,14 +2,14 @@
 ghost use Rattle.std.specs.Prelude.{◌<◌, ◌≤◌, length};
 
 // A run of digits: the place behind it, and what it says.
-#[derive(Drop)]
+#[derive(Clone, Copy)]
 struct Run {
     end: usize,
     value: u64,
 }
 
 // A number with the limit typed behind it.
-#[derive(Drop)]
+#[derive(Clone, Copy)]
 struct Count {
     end: usize,
     value: u64,
@@ -17,7 +17,7 @@ struct Count {
 }
 
 // The numbers of a case, 0 where there is none, and the limits of the second and the third, 64 where there is none.
-#[derive(Drop)]
+#[derive(Clone, Copy)]
 pub(crate) struct Numbers {
     pub(crate) a: u64,
     pub(crate) b: u64,
