@@ -1,5 +1,6 @@
 // The search for the next child on the way to an address, and the prefix that names it.
 #![tactic(auto)]
+
 ghost use Rattle.std.specs.Prelude.{◌≡◌};
 ghost use Rattle.address.specs.Bits.{bits};
 ghost use Rattle.search.specs.Search.{child_end, first_bits};
