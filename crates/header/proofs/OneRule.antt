@@ -1,14 +1,14 @@
 -- The statements of the refusals allow one writer and one reader: at each input they give the refusal's number, and with that everything else
 -- that is answered or lent. Assumes nothing.
-use Prim.Native.Nat.{ℕ, ◌-◌}
+use Prim.Native.Nat.{ℕ}
 use mathlib.Core.Path.{◌≡◌, refl, sym, ap, ◌∙◌}
-use mathlib.Core.List.{List, ◌++◌}
+use mathlib.Core.List.{List}
 use native.Mathlib.Decide.{ℕ_discrete}
 use native.Mathlib.Omega.{arith}
 use lib.ListN.{length, take, drop, get_or}
 use lib.Seq.{take_at}
 use Rattle.octets.specs.Octets.{value, WriteEffect}
-use Rattle.header.specs.Header.{HeaderAnswer, writing, reading}
+use Rattle.header.specs.Header.{writing, reading}
 use Rattle.header.specs.RoundTrip.{HeaderWriter, HeaderReader}
 use Rattle.header.specs.Refusals.{HeaderWriteRefusals, AcceptedHeader, HeaderReadRefusals}
 use Rattle.header.proofs.RefusalLaws.{header-write-refusals, header-read-refusals}

@@ -11,7 +11,6 @@ use borrow.Author.Tests.{eq-eqb, ne_eqb, lt-ltb, le-ltb, ltb-false}
 use lib.Dec.{eqb, ltb, lit≤}
 use lib.ListN.{length, take, drop, get_or, length-take, length-drop}
 use lib.Seq.{get_or-take, get_or-drop}
-use Rattle.address.specs.Choice.{if◌then◌else◌}
 use Rattle.octets.specs.Octets.{AreOctets, value}
 use Rattle.address.proofs.ChoiceLaws.{if-zero}
 use Rattle.octets.proofs.Correspondence.{value-zeros}
@@ -101,3 +100,6 @@ address_fault-zero s p e =
     let first = if-zero (ltb most_octets s) 5 _ e in
     let second = if-zero (ltb (length p) (fixed_octets + s)) 3 _ first.1 in
     (ltb-false most_octets s first.0, ltb-false (length p) (fixed_octets + s) second.0, second.1)
+
+-- each case of the two faults
+pub ruleset fault_cases = (zero_fault-some, zero_fault-single, zero_fault_several, address_fault-size, address_fault-short, address_fault-long)

@@ -4,8 +4,7 @@ use mathlib.Core.Path.{◌≡◌, sym, ap, ap₂, ◌∙◌}
 use mathlib.Core.List.{List}
 use Prim.Native.Nat.{ℕ}
 use contract.Lifetimes.{Lfts}
-use denote.Ref.{Bor}
-use Rattle.octets.specs.Octets.{WriteEffect}
+use Rattle.std.specs.Borrow.{Bor, MutBor}
 use Rattle.address.specs.declared.Address.{Address}
 use Rattle.octets.specs.declared.Written.{Written}
 use Rattle.header.specs.declared.Reading.{Reading}
@@ -14,14 +13,17 @@ use Rattle.header.proofs.Payload.{reading-refused}
 use Rattle.header.proofs.write.Reads as write-reads
 use Rattle.header.proofs.read.Reads as read-reads
 
--- a lent slice of octets
+-- a lent slice of octets, to read and to write
 abbrev Slice : Type 0
 Slice = Bor (List ℕ)
 
-pub write-asks-nothing : (κs : Lfts 1) (address : Address) (out : Slice) → write-reads.Asked κs (address, (out, tt))
+abbrev SliceMut : Type 0
+SliceMut = MutBor (List ℕ)
+
+pub write-asks-nothing : (κs : Lfts 1) (address : Address) (out : SliceMut) → write-reads.Asked κs (address, (out, tt))
 write-asks-nothing κs address out = tt
 
-pub write_promise : (κs : Lfts 1) (address : Address) (out last : Slice) (r : Written)
+pub write_promise : (κs : Lfts 1) (address : Address) (out last : SliceMut) (r : Written)
     → write-reads.Learnt κs (address, (out, tt)) r (address, (last, tt))
     → record { answer = r; buffer = last.now } ≡ writing address.number out.now
 write_promise κs address out last r h = ap₂ (λ (w : Written) (b : List ℕ). record { answer = w; buffer = b }) h.0 h.1

@@ -1,14 +1,14 @@
 -- What writing comes to, case by case, and the buffer as the code leaves it: three octets set, and the address put behind them. Assumes
 -- nothing.
-use mathlib.Core.Path.{◌≡◌, refl, sym, ap, ◌∙◌}
+use mathlib.Core.Path.{◌≡◌, sym, ap, ◌∙◌}
 use mathlib.Core.List.{List, [], ◌∷◌, ◌++◌}
 use Prim.Native.Nat.{ℕ, suc, ◌+◌, ◌-◌, ◌*◌, ◌≤◌, ◌<◌}
 use native.Mathlib.Nat.{add-sub_cancel_left}
 use native.Mathlib.Omega.{arith}
 use borrow.Author.Tests.{eq-eqb, ne_eqb, lt-ltb, le-ltb}
 use borrow.Rule.Slice.PartMut.{put_mid}
-use lib.ListN.{length, take, drop, set}
-use Rattle.octets.specs.Octets.{octets, WriteEffect, refuse_writing, write}
+use lib.ListN.{length, drop, set}
+use Rattle.octets.specs.Octets.{octets, refuse_writing, write}
 use Rattle.octets.proofs.OctetLaws.{length-octets}
 use Rattle.header.specs.Header.{header, place, size, writing, fixed_octets, page_octet, critical_pattern, routing_type}
 

@@ -1,5 +1,6 @@
 // The packet header: what the octets are, in which order they are checked and what each fault is numbered, stands in specs/Header.antt.
 #![tactic(auto)]
+
 ghost use Rattle.std.specs.Prelude.{◌≡◌, ◌≤◌};
 ghost use Rattle.header.specs.Header.{size, writing, header_answer, reading, start_fault, zero_fault, address_fault};
 
@@ -98,6 +99,7 @@ fn start_fault(packet: &[u8]) -> u8
 }
 
 // The fault of an address in so many octets, by the first of them: the address is zero, or fewer octets hold it. 0 where there is none.
+#[tactic(auto, using(crate::proofs::Parts::fault_cases))]
 fn zero_fault(size: usize, first: u8) -> u8
     ensures { result ≡ zero_fault size first }
 {
@@ -111,6 +113,7 @@ fn zero_fault(size: usize, first: u8) -> u8
 }
 
 // The fault of what follows the first three octets, where the second tells this size; 0 where there is none.
+#[tactic(auto, using(crate::proofs::Parts::fault_cases))]
 fn address_fault(packet: &[u8], size: usize) -> u8
     requires { 1 ≤ size }
     ensures { result ≡ address_fault size packet.now }
