@@ -5,7 +5,7 @@ use mathlib.Core.List.{List}
 use Prim.Native.Nat.{ℕ}
 use native.Mathlib.Omega.{arith}
 use contract.Lifetimes.{Lfts}
-use denote.Ref.{Bor}
+use Rattle.std.specs.Borrow.{Bor, MutBor}
 use Rattle.address.specs.Address.{AddressAnswer, refused_address, made_answer}
 use Rattle.address.specs.declared.Address.{Address}
 use Rattle.address.specs.declared.Made.{Made}
@@ -20,10 +20,10 @@ use Rattle.ipv6.proofs.read.Reads as read-reads
 abbrev Slice : Type 0
 Slice = Bor (List ℕ)
 
-pub write-asks-nothing : (κs : Lfts 2) (prefix : Slice) (address : Address) (out : Slice) → write-reads.Asked κs (prefix, (address, (out, tt)))
+pub write-asks-nothing : (κs : Lfts 2) (prefix : Slice) (address : Address) (out : MutBor (List ℕ)) → write-reads.Asked κs (prefix, (address, (out, tt)))
 write-asks-nothing κs prefix address out = tt
 
-pub write_promise : (κs : Lfts 2) (prefix : Slice) (address : Address) (out last : Slice) (r : Written)
+pub write_promise : (κs : Lfts 2) (prefix : Slice) (address : Address) (out last : MutBor (List ℕ)) (r : Written)
     → write-reads.Learnt κs (prefix, (address, (out, tt))) r (prefix, (address, (last, tt)))
     → record { answer = r; buffer = last.now } ≡ form_writing prefix.now address.number out.now
 write_promise κs prefix address out last r h = ap₂ (λ (w : Written) (b : List ℕ). record { answer = w; buffer = b }) h.0 h.1

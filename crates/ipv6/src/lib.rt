@@ -1,5 +1,6 @@
 // The IPv6 form of an address, both ways: specs/Form.antt says what it is, in which order the checks go and what each refusal is numbered.
 #![tactic(auto)]
+
 ghost use Rattle.std.specs.Prelude.{◌≡◌};
 ghost use Rattle.address.specs.Address.{made_answer};
 ghost use Rattle.ipv6.specs.Form.{form_writing, form_reading};
