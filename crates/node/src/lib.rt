@@ -1,6 +1,7 @@
 // A node's record, the request for a child and the setting of a limit: specs/Node.antt says which records are good, which address a child gets
 // and when a request or a setting is refused.
 #![tactic(auto)]
+
 ghost use Rattle.std.specs.Prelude.{◌≡◌, ◌<◌};
 ghost use Rattle.address.specs.Bits.{digit};
 ghost use Rattle.address.specs.Steps.{last_of};
