@@ -4,7 +4,7 @@
 use Rattle.std.specs.Prelude.{ℕ, ◌+◌, ◌-◌, ◌*◌, ◌/◌, ◌%◌, ◌^◌, ◌<◌, ◌≤◌, ◌≡◌, Bool, List, length}
 use Rattle.std.specs.Int.Count.{count_leading_zeros}
 use contract.Lifetimes.{Lfts}
-use Rattle.std.specs.Borrow.{Bor}
+use Rattle.std.specs.Borrow.{Bor, MutBor}
 use Rattle.address.specs.declared.Address.{Address}
 use Rattle.address.specs.declared.Kind.{Kind}
 use Rattle.address.specs.declared.Made.{Made}
@@ -57,12 +57,16 @@ use Rattle.header.proofs.read.Reads as header-read-reads
 use Rattle.ipv6.proofs.write.Reads as form-write-reads
 use Rattle.ipv6.proofs.read.Reads as form-read-reads
 use Rattle.route.proofs.path.Reads as path-reads
-use Rattle.line.proofs.answer.Reads as line_reads_lem
+use Rattle.line.proofs.answer.Reads as line_reads
 use Rattle.plan.proofs.read.Reads as plan-reads
 
 -- what is lent: octets or words
 abbrev pub Slice : Type 0
 Slice = Bor (List ℕ)
+
+-- what is lent to be written
+abbrev pub SliceMut : Type 0
+SliceMut = MutBor (List ℕ)
 
 pub record AsksNothing : Type 0 where
   pub address_of : (n : ℕ) → of-reads.Asked tt (n, tt)
@@ -71,7 +75,7 @@ pub record AsksNothing : Type 0 where
   pub address_is_host : (a : Address) → is-host-reads.Asked tt (a, tt)
   pub address_depth : (a : Address) → depth-reads.Asked tt (a, tt)
   pub address_parent : (a : Address) → parent-reads.Asked tt (a, tt)
-  pub octets_put : (κs : Lfts 1) (number : ℕ) (out : Slice) → put_reads.Asked κs (number, (out, tt))
+  pub octets_put : (κs : Lfts 1) (number : ℕ) (out : SliceMut) → put_reads.Asked κs (number, (out, tt))
   pub octets_get : (κs : Lfts 1) (from : Slice) → get-reads.Asked κs (from, tt)
   pub search_child_end : (a : Address) (from : ℕ) → child-end-reads.Asked tt (a, (from, tt))
   pub search_child_end_by_bits : (a : Address) (from : ℕ) → child-end-by-bits-reads.Asked tt (a, (from, tt))
@@ -82,15 +86,15 @@ pub record AsksNothing : Type 0 where
   pub node_child : (n : Node) (kind : Kind) → child-reads.Asked tt (n, (kind, tt))
   pub next_hop_of : (n : Node) (d : Address) → next-hop-reads.Asked tt (n, (d, tt))
   pub packet_hop_of : (κs : Lfts 1) (n : Node) (p : Slice) → packet-next-hop-reads.Asked κs (n, (p, tt))
-  pub header_write : (κs : Lfts 1) (a : Address) (out : Slice) → header-write-reads.Asked κs (a, (out, tt))
+  pub header_write : (κs : Lfts 1) (a : Address) (out : SliceMut) → header-write-reads.Asked κs (a, (out, tt))
   pub header_read : (κs : Lfts 1) (p : Slice) → header-read-reads.Asked κs (p, tt)
-  pub form_write : (κs : Lfts 2) (prefix : Slice) (a : Address) (out : Slice) → form-write-reads.Asked κs (prefix, (a, (out, tt)))
+  pub form_write : (κs : Lfts 2) (prefix : Slice) (a : Address) (out : SliceMut) → form-write-reads.Asked κs (prefix, (a, (out, tt)))
   pub form_read : (κs : Lfts 2) (prefix ipv6 : Slice) → form-read-reads.Asked κs (prefix, (ipv6, tt))
-  pub path_call : (κs : Lfts 1) (a d : Address) (words : Slice) → path-reads.Asked κs (a, (d, (words, tt)))
-  pub line_answer : (κs : Lfts 2) (input out : Slice) → line_reads_lem.Asked κs (input, (out, tt))
-  pub plan_read : (κs : Lfts 2) (text words : Slice) → plan-reads.Asked κs (text, (words, tt))
+  pub path_call : (κs : Lfts 1) (a d : Address) (words : SliceMut) → path-reads.Asked κs (a, (d, (words, tt)))
+  pub line_answer : (κs : Lfts 2) (input : Slice) (out : SliceMut) → line_reads.Asked κs (input, (out, tt))
+  pub plan_read : (κs : Lfts 2) (text : Slice) (words : SliceMut) → plan-reads.Asked κs (text, (words, tt))
   pub batch_hop : (h : Hop) → pasa-hop-reads.Asked tt (h, tt)
-  pub batch_next_hops : (κs : Lfts 4) (n : Node) (ds nodes actions refusals : Slice)
+  pub batch_next_hops : (κs : Lfts 4) (n : Node) (ds : Slice) (nodes actions refusals : SliceMut)
       → next-hops-reads.Asked κs (n, (ds, (nodes, (actions, (refusals, tt)))))
   pub pasa_node_of : (n : PasaNode) → node-of-reads.Asked tt (n, tt)
 
@@ -101,7 +105,7 @@ pub record AnswersAsDefined : Type 0 where
   pub address_is_host : (a : Address) (r : Bool) → is-host-reads.Learnt tt (a, tt) r (a, tt) → r ≡ is_host a.number
   pub address_depth : (a : Address) (r : ℕ) → depth-reads.Learnt tt (a, tt) r (a, tt) → r ≡ depth a.number
   pub address_parent : (a r : Address) → parent-reads.Learnt tt (a, tt) r (a, tt) → r.number ≡ parent a.number
-  pub octets_put : (κs : Lfts 1) (number : ℕ) (out out' : Slice) (r : Unit {0}) → put_reads.Learnt κs (number, (out, tt)) r (number, (out', tt))
+  pub octets_put : (κs : Lfts 1) (number : ℕ) (out out' : SliceMut) (r : Unit {0}) → put_reads.Learnt κs (number, (out, tt)) r (number, (out', tt))
       → out'.now ≡ octets (length out.now) number
   pub octets_get : (κs : Lfts 1) (from : Slice) (r : ℕ) → get-reads.Learnt κs (from, tt) r (from, tt) → r ≡ value from.now % 2 ^ 64
   pub search_child_end : (a : Address) (from r : ℕ) → child-end-reads.Learnt tt (a, (from, tt)) r (a, (from, tt)) → r ≡ child_end from (bits a.number)
@@ -117,23 +121,23 @@ pub record AnswersAsDefined : Type 0 where
   pub next_hop_of : (n : Node) (d : Address) (r : Hop) → next-hop-reads.Learnt tt (n, (d, tt)) r (n, (d, tt)) → hop_answer r ≡ next_hop n d.number
   pub packet_hop_of : (κs : Lfts 1) (n : Node) (p : Slice) (r : Hop) → packet-next-hop-reads.Learnt κs (n, (p, tt)) r (n, (p, tt))
       → hop_answer r ≡ packet_hop n p.now
-  pub header_write : (κs : Lfts 1) (a : Address) (out out' : Slice) (r : Written) → header-write-reads.Learnt κs (a, (out, tt)) r (a, (out', tt))
+  pub header_write : (κs : Lfts 1) (a : Address) (out out' : SliceMut) (r : Written) → header-write-reads.Learnt κs (a, (out, tt)) r (a, (out', tt))
       → (r ≡ (writing a.number out.now).answer) × (out'.now ≡ (writing a.number out.now).buffer)
   pub header_read : (κs : Lfts 1) (p : Slice) (r : Reading) → header-read-reads.Learnt κs (p, tt) r (p, tt) → header_answer r ≡ reading p.now
-  pub form_write : (κs : Lfts 2) (prefix : Slice) (a : Address) (out out' : Slice) (r : Written)
+  pub form_write : (κs : Lfts 2) (prefix : Slice) (a : Address) (out out' : SliceMut) (r : Written)
       → form-write-reads.Learnt κs (prefix, (a, (out, tt))) r (prefix, (a, (out', tt)))
       → (r ≡ (form_writing prefix.now a.number out.now).answer) × (out'.now ≡ (form_writing prefix.now a.number out.now).buffer)
   pub form_read : (κs : Lfts 2) (prefix ipv6 : Slice) (r : Made) → form-read-reads.Learnt κs (prefix, (ipv6, tt)) r (prefix, (ipv6, tt))
       → made_answer r ≡ form_reading prefix.now ipv6.now
-  pub path_call : (κs : Lfts 1) (a d : Address) (words words' : Slice) (r : Listed)
+  pub path_call : (κs : Lfts 1) (a d : Address) (words words' : SliceMut) (r : Listed)
       → path-reads.Learnt κs (a, (d, (words, tt))) r (a, (d, (words', tt)))
       → (r ≡ (listing a.number d.number words.now).answer) × (words'.now ≡ (listing a.number d.number words.now).words)
-  pub line_answer : (κs : Lfts 2) (input out out' : Slice) (r : Written) → line_reads_lem.Learnt κs (input, (out, tt)) r (input, (out', tt))
+  pub line_answer : (κs : Lfts 2) (input : Slice) (out out' : SliceMut) (r : Written) → line_reads.Learnt κs (input, (out, tt)) r (input, (out', tt))
       → (r ≡ (answering input.now out.now).answer) × (out'.now ≡ (answering input.now out.now).buffer)
-  pub plan_read : (κs : Lfts 2) (text words words' : Slice) (r : Planned) → plan-reads.Learnt κs (text, (words, tt)) r (text, (words', tt))
+  pub plan_read : (κs : Lfts 2) (text : Slice) (words words' : SliceMut) (r : Planned) → plan-reads.Learnt κs (text, (words, tt)) r (text, (words', tt))
       → (r ≡ (planning text.now words.now).answer) × (words'.now ≡ (planning text.now words.now).words)
   pub batch_hop : (h : Hop) (r : PasaHop) → pasa-hop-reads.Learnt tt (h, tt) r (h, tt) → r ≡ pasa_hop (hop_answer h)
-  pub batch_next_hops : (κs : Lfts 4) (n : Node) (ds nodes actions refusals nodes' actions' refusals' : Slice) (r : ℕ)
+  pub batch_next_hops : (κs : Lfts 4) (n : Node) (ds : Slice) (nodes actions refusals nodes' actions' refusals' : SliceMut) (r : ℕ)
       → next-hops-reads.Learnt κs (n, (ds, (nodes, (actions, (refusals, tt))))) r (n, (ds, (nodes', (actions', (refusals', tt)))))
       → ◌≡◌ {A = BatchEffect} record { count = r; nodes = nodes'.now; actions = actions'.now; refusals = refusals'.now }
       (next_hops n ds.now nodes.now actions.now refusals.now)

@@ -11,7 +11,7 @@ use Rattle.forward.specs.Forward.{next_hop}
 use Rattle.packet.specs.Packet.{packet_hop}
 use Rattle.route.specs.Path.{listing}
 use Rattle.plan.specs.Plan.{planning}
-use Rattle.claims.specs.Code.{Slice}
+use Rattle.claims.specs.Code.{Slice, SliceMut}
 use Rattle.pasa.specs.declared.bytes.PasaWritten.{PasaWritten}
 use Rattle.pasa.specs.declared.bytes.PasaRead.{PasaRead}
 use Rattle.pasa.specs.declared.bytes.PasaAddress.{PasaAddress}
@@ -52,14 +52,14 @@ pub record ExportsAskNothing : Type 0 where
   pub pasa_child_host : (n : PasaNode) → child-host-reads.Asked tt (n, tt)
   pub pasa_next_hop : (n : PasaNode) (d : ℕ) → next-hop-reads.Asked tt (n, (d, tt))
   pub pasa_packet_next_hop : (κs : Lfts 1) (n : PasaNode) (packet : Slice) → packet-next-hop-reads.Asked κs (n, (packet, tt))
-  pub pasa_next_hops : (κs : Lfts 4) (n : PasaNode) (ds nodes actions refusals : Slice)
+  pub pasa_next_hops : (κs : Lfts 4) (n : PasaNode) (ds : Slice) (nodes actions refusals : SliceMut)
       → next-hops-reads.Asked κs (n, (ds, (nodes, (actions, (refusals, tt)))))
-  pub pasa_header_write : (κs : Lfts 1) (a : ℕ) (out : Slice) → header-write-reads.Asked κs (a, (out, tt))
+  pub pasa_header_write : (κs : Lfts 1) (a : ℕ) (out : SliceMut) → header-write-reads.Asked κs (a, (out, tt))
   pub pasa_header_read : (κs : Lfts 1) (packet : Slice) → header-read-reads.Asked κs (packet, tt)
-  pub pasa_ipv6_write : (κs : Lfts 2) (prefix : Slice) (a : ℕ) (out : Slice) → ipv6-write-reads.Asked κs (prefix, (a, (out, tt)))
+  pub pasa_ipv6_write : (κs : Lfts 2) (prefix : Slice) (a : ℕ) (out : SliceMut) → ipv6-write-reads.Asked κs (prefix, (a, (out, tt)))
   pub pasa_ipv6_read : (κs : Lfts 2) (prefix ipv6 : Slice) → ipv6-read-reads.Asked κs (prefix, (ipv6, tt))
-  pub pasa_path : (κs : Lfts 1) (a d : ℕ) (words : Slice) → path-reads.Asked κs (a, (d, (words, tt)))
-  pub pasa_plan_read : (κs : Lfts 2) (text words : Slice) → plan-read-reads.Asked κs (text, (words, tt))
+  pub pasa_path : (κs : Lfts 1) (a d : ℕ) (words : SliceMut) → path-reads.Asked κs (a, (d, (words, tt)))
+  pub pasa_plan_read : (κs : Lfts 2) (text : Slice) (words : SliceMut) → plan-read-reads.Asked κs (text, (words, tt))
   pub pasa_parent : (a : ℕ) → parent-reads.Asked tt (a, tt)
   pub pasa_depth : (a : ℕ) → depth-reads.Asked tt (a, tt)
   pub pasa_bit_length : (a : ℕ) → bit-length-reads.Asked tt (a, tt)
@@ -74,26 +74,26 @@ pub record ExportsAnswerAsDefined : Type 0 where
   pub pasa_packet_next_hop : (κs : Lfts 1) (n : PasaNode) (packet : Slice) (r : PasaHop)
       → packet-next-hop-reads.Learnt κs (n, (packet, tt)) r (n, (packet, tt))
       → r ≡ pasa_hop (packet_hop (node_of n) packet.now)
-  pub pasa_next_hops : (κs : Lfts 4) (n : PasaNode) (ds nodes actions refusals nodes' actions' refusals' : Slice) (r : ℕ)
+  pub pasa_next_hops : (κs : Lfts 4) (n : PasaNode) (ds : Slice) (nodes actions refusals nodes' actions' refusals' : SliceMut) (r : ℕ)
       → next-hops-reads.Learnt κs (n, (ds, (nodes, (actions, (refusals, tt))))) r (n, (ds, (nodes', (actions', (refusals', tt)))))
       → ◌≡◌ {A = BatchEffect} record { count = r; nodes = nodes'.now; actions = actions'.now; refusals = refusals'.now }
       (next_hops (node_of n) ds.now nodes.now actions.now refusals.now)
-  pub pasa_header_write : (κs : Lfts 1) (a : ℕ) (out last : Slice) (r : PasaWritten)
+  pub pasa_header_write : (κs : Lfts 1) (a : ℕ) (out last : SliceMut) (r : PasaWritten)
       → header-write-reads.Learnt κs (a, (out, tt)) r (a, (last, tt))
       → (r ≡ pasa_written (writing a out.now).answer) × (last.now ≡ (writing a out.now).buffer)
   pub pasa_header_read : (κs : Lfts 1) (packet : Slice) (r : PasaRead)
       → header-read-reads.Learnt κs (packet, tt) r (packet, tt)
       → r ≡ pasa_read (reading packet.now)
-  pub pasa_ipv6_write : (κs : Lfts 2) (prefix : Slice) (a : ℕ) (out last : Slice) (r : PasaWritten)
+  pub pasa_ipv6_write : (κs : Lfts 2) (prefix : Slice) (a : ℕ) (out last : SliceMut) (r : PasaWritten)
       → ipv6-write-reads.Learnt κs (prefix, (a, (out, tt))) r (prefix, (a, (last, tt)))
       → (r ≡ pasa_written (form_writing prefix.now a out.now).answer) × (last.now ≡ (form_writing prefix.now a out.now).buffer)
   pub pasa_ipv6_read : (κs : Lfts 2) (prefix ipv6 : Slice) (r : PasaAddress)
       → ipv6-read-reads.Learnt κs (prefix, (ipv6, tt)) r (prefix, (ipv6, tt))
       → r ≡ pasa_address (form_reading prefix.now ipv6.now)
-  pub pasa_path : (κs : Lfts 1) (a d : ℕ) (words last : Slice) (r : PasaListed)
+  pub pasa_path : (κs : Lfts 1) (a d : ℕ) (words last : SliceMut) (r : PasaListed)
       → path-reads.Learnt κs (a, (d, (words, tt))) r (a, (d, (last, tt)))
       → (r ≡ pasa_listed (listing a d words.now).answer) × (last.now ≡ (listing a d words.now).words)
-  pub pasa_plan_read : (κs : Lfts 2) (text words last : Slice) (r : PasaPlan)
+  pub pasa_plan_read : (κs : Lfts 2) (text : Slice) (words last : SliceMut) (r : PasaPlan)
       → plan-read-reads.Learnt κs (text, (words, tt)) r (text, (last, tt))
       → (r ≡ pasa_plan (planning text.now words.now).answer) × (last.now ≡ (planning text.now words.now).words)
   pub pasa_parent : (a r : ℕ) → parent-reads.Learnt tt (a, tt) r (a, tt) → r ≡ parent a

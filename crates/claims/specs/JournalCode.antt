@@ -8,7 +8,7 @@ use prog.Routine.{Routine}
 use types.Logic.{Logic}
 use contract.Lifetimes.{Lfts}
 use contract.Monad.{Fun, fact}
-use Rattle.std.specs.Borrow.{Bor}
+use Rattle.std.specs.Borrow.{Bor, MutBor}
 use denote.Triple.Clauses.{AtExit}
 use Rattle.address.specs.declared.Address.{Address}
 use Rattle.node.specs.Node.{with_counts}
@@ -58,24 +58,28 @@ use Rattle.pasa.proofs.journals.pasa_crc.Reads as pasa-crc-reads
 abbrev pub Slice : Type 0
 Slice = Bor (List ℕ)
 
+-- what is lent to be written
+abbrev pub SliceMut : Type 0
+SliceMut = MutBor (List ℕ)
+
 pub record JournalAsksNothing : Type 0 where
   pub node_with_counts : (n : Node) (routers hosts : ℕ) → with-counts-reads.Asked tt (n, (routers, (hosts, tt)))
   pub crc_of : (κs : Lfts 1) (os : Slice) → crc-reads.Asked κs (os, tt)
   pub block_all_are : (κs : Lfts 1) (byte : ℕ) (bytes : Slice) → all-are-reads.Asked κs (byte, (bytes, tt))
   pub block_is_block : (κs : Lfts 1) (slot : Slice) → is-block-reads.Asked κs (slot, tt)
-  pub block_put_in : (κs : Lfts 2) (xs slot : Slice) → put_reads.Asked κs (xs, (slot, tt))
-  pub journal_recover : (κs : Lfts 2) (journal words : Slice) → recover-reads.Asked κs (journal, (words, tt))
-  pub journal_write : (κs : Lfts 2) (journal xs : Slice) → write-reads.Asked κs (journal, (xs, tt))
+  pub block_put_in : (κs : Lfts 2) (xs : Slice) (slot : SliceMut) → put_reads.Asked κs (xs, (slot, tt))
+  pub journal_recover : (κs : Lfts 2) (journal : Slice) (words : SliceMut) → recover-reads.Asked κs (journal, (words, tt))
+  pub journal_write : (κs : Lfts 2) (journal : SliceMut) (xs : Slice) → write-reads.Asked κs (journal, (xs, tt))
   pub journal_record : (κs : Lfts 1) (words : Slice) (a : Address) → record-in-reads.Asked κs (words, (a, tt))
   pub journal_refuse : (number : ℕ) → refuse-reads.Asked tt (number, tt)
   pub journal_unfit : (bytes words : ℕ) → unfit-reads.Asked tt (bytes, (words, tt))
-  pub journal_take_slot : (κs : Lfts 2) (journal : Slice) (slot : ℕ) (words : Slice) (written nodes : ℕ)
+  pub journal_take_slot : (κs : Lfts 2) (journal : Slice) (slot : ℕ) (words : SliceMut) (written nodes : ℕ)
       → take-slot-reads.Asked κs (journal, (slot, (words, (written, (nodes, tt)))))
-  pub journal_finish : (κs : Lfts 1) (end : Progress) (words : Slice) → finish-reads.Asked κs (end, (words, tt))
-  pub reader_recover : (κs : Lfts 2) (journal words : Slice) → reader-recover-reads.Asked κs (journal, (words, tt))
+  pub journal_finish : (κs : Lfts 1) (end : Progress) (words : SliceMut) → finish-reads.Asked κs (end, (words, tt))
+  pub reader_recover : (κs : Lfts 2) (journal : Slice) (words : SliceMut) → reader-recover-reads.Asked κs (journal, (words, tt))
   pub pasa_node_to : (n : Node) → pasa-node-reads.Asked tt (n, tt)
-  pub pasa_journal_write : (κs : Lfts 2) (journal xs : Slice) → pasa-write-reads.Asked κs (journal, (xs, tt))
-  pub pasa_journal_recover : (κs : Lfts 2) (journal words : Slice) → pasa-recover-reads.Asked κs (journal, (words, tt))
+  pub pasa_journal_write : (κs : Lfts 2) (journal : SliceMut) (xs : Slice) → pasa-write-reads.Asked κs (journal, (xs, tt))
+  pub pasa_journal_recover : (κs : Lfts 2) (journal : Slice) (words : SliceMut) → pasa-recover-reads.Asked κs (journal, (words, tt))
   pub pasa_journal_record : (κs : Lfts 1) (words : Slice) (a : ℕ) → pasa-record-reads.Asked κs (words, (a, tt))
   pub pasa_crc : (κs : Lfts 1) (os : Slice) → pasa-crc-reads.Asked κs (os, tt)
 
@@ -86,12 +90,12 @@ pub record JournalAnswersAsDefined : Type 0 where
   pub block_all_are : (κs : Lfts 1) (byte : ℕ) (bytes : Slice) (r : Bool) → all-are-reads.Learnt κs (byte, (bytes, tt)) r (byte, (bytes, tt))
       → r ≡ all_are byte bytes.now
   pub block_is_block : (κs : Lfts 1) (slot : Slice) (r : Bool) → is-block-reads.Learnt κs (slot, tt) r (slot, tt) → r ≡ is_block slot.now
-  pub block_put_in : (κs : Lfts 2) (xs slot slot' : Slice) → put_reads.Learnt κs (xs, (slot, tt)) tt (xs, (slot', tt))
+  pub block_put_in : (κs : Lfts 2) (xs : Slice) (slot slot' : SliceMut) → put_reads.Learnt κs (xs, (slot, tt)) tt (xs, (slot', tt))
       → slot'.now ≡ block_put xs.now slot.now
-  pub journal_recover : (κs : Lfts 2) (journal words words' : Slice) (r : Recovered)
+  pub journal_recover : (κs : Lfts 2) (journal : Slice) (words words' : SliceMut) (r : Recovered)
       → recover-reads.Learnt κs (journal, (words, tt)) r (journal, (words', tt))
       → (r ≡ (recovering journal.now words.now).answer) × (words'.now ≡ (recovering journal.now words.now).words)
-  pub journal_write : (κs : Lfts 2) (journal xs journal' : Slice) (r : Placed)
+  pub journal_write : (κs : Lfts 2) (journal : SliceMut) (xs : Slice) (journal' : SliceMut) (r : Placed)
       → write-reads.Learnt κs (journal, (xs, tt)) r (journal', (xs, tt))
       → (r ≡ (writing journal.now xs.now).answer) × (journal'.now ≡ (writing journal.now xs.now).journal)
   pub journal_record : (κs : Lfts 1) (words : Slice) (a : Address) (r : Record)
@@ -99,21 +103,21 @@ pub record JournalAnswersAsDefined : Type 0 where
   -- the parts of recovery, which the reader shares
   pub journal_refuse : (number : ℕ) (r : Recovered) → refuse-reads.Learnt tt (number, tt) r (number, tt) → r ≡ record { refusal = number; nodes = 0 }
   pub journal_unfit : (bytes words r : ℕ) → unfit-reads.Learnt tt (bytes, (words, tt)) r (bytes, (words, tt)) → r ≡ unfit bytes words
-  pub journal_take_slot : (κs : Lfts 2) (journal : Slice) (slot : ℕ) (words words' : Slice) (written nodes : ℕ) (r : Progress)
+  pub journal_take_slot : (κs : Lfts 2) (journal : Slice) (slot : ℕ) (words words' : SliceMut) (written nodes : ℕ) (r : Progress)
       → take-slot-reads.Learnt κs (journal, (slot, (words, (written, (nodes, tt))))) r (journal, (slot, (words', (written, (nodes, tt)))))
       → (r ≡ (step journal.now slot written nodes words.now).progress) × (words'.now ≡ (step journal.now slot written nodes words.now).words)
-  pub journal_finish : (κs : Lfts 1) (end : Progress) (words words' : Slice) (r : Recovered)
+  pub journal_finish : (κs : Lfts 1) (end : Progress) (words words' : SliceMut) (r : Recovered)
       → finish-reads.Learnt κs (end, (words, tt)) r (end, (words', tt))
       → (r ≡ (finished end words.now).answer) × (words'.now ≡ (finished end words.now).words)
   -- recovery by a reader: the contract of recovery
-  pub reader_recover : (κs : Lfts 2) (journal words words' : Slice) (r : Recovered)
+  pub reader_recover : (κs : Lfts 2) (journal : Slice) (words words' : SliceMut) (r : Recovered)
       → reader-recover-reads.Learnt κs (journal, (words, tt)) r (journal, (words', tt))
       → (r ≡ (recovering journal.now words.now).answer) × (words'.now ≡ (recovering journal.now words.now).words)
   pub pasa_node_to : (n : Node) (r : PasaNode) → pasa-node-reads.Learnt tt (n, tt) r (n, tt) → r ≡ pasa_node n
-  pub pasa_journal_write : (κs : Lfts 2) (journal xs journal' : Slice) (r : PasaBlock)
+  pub pasa_journal_write : (κs : Lfts 2) (journal : SliceMut) (xs : Slice) (journal' : SliceMut) (r : PasaBlock)
       → pasa-write-reads.Learnt κs (journal, (xs, tt)) r (journal', (xs, tt))
       → (r ≡ pasa_block (writing journal.now xs.now).answer) × (journal'.now ≡ (writing journal.now xs.now).journal)
-  pub pasa_journal_recover : (κs : Lfts 2) (journal words words' : Slice) (r : PasaRecovered)
+  pub pasa_journal_recover : (κs : Lfts 2) (journal : Slice) (words words' : SliceMut) (r : PasaRecovered)
       → pasa-recover-reads.Learnt κs (journal, (words, tt)) r (journal, (words', tt))
       → (r ≡ pasa_recovered (recovering journal.now words.now).answer) × (words'.now ≡ (recovering journal.now words.now).words)
   pub pasa_journal_record : (κs : Lfts 1) (words : Slice) (a : ℕ) (r : PasaRecord)
@@ -167,7 +171,7 @@ pub record TheReader : Type 2 where
       → ((start.clauses 𝓛 mem run κs (journal, tt)).requires tt ≡ emp 𝓤)
       × ((start.clauses 𝓛 mem run κs (journal, tt)).ensures tt r end ≡ fact 𝓤 (r ≡ record { journal = journal; slot = 0 }))
   pub takes : {M : Type 1} {𝓤 : Ura M} (𝓛 : Logic 𝓤) (mem : Memory → SProp 𝓤) (run : Routine → Fun 𝓤) (κs : Lfts 2) (reader : Reader)
-      (words : Slice) (written nodes : ℕ) (r : Taken) (end : AtExit next.ended κs)
+      (words : SliceMut) (written nodes : ℕ) (r : Taken) (end : AtExit next.ended κs)
       → ((next.clauses 𝓛 mem run κs (reader, (words, (written, (nodes, tt))))).requires tt ≡ emp 𝓤)
       × ((next.clauses 𝓛 mem run κs (reader, (words, (written, (nodes, tt))))).ensures tt r end
       ≡ fact 𝓤 ((r ≡ (reading reader written nodes words.now).taken) × (end.1.0.now ≡ (reading reader written nodes words.now).words)))

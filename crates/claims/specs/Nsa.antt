@@ -27,7 +27,7 @@ use Rattle.nsa.proofs.read.Reads as read-reads
 use Rattle.pasa.proofs.bytes.pasa_written.Reads as written-reads
 use Rattle.pasa.proofs.fields.pasa_nsa_write.Reads as nsa-write-reads
 use Rattle.pasa.proofs.fields.pasa_nsa_read.Reads as nsa-read-reads
-use Rattle.claims.specs.Code.{Slice}
+use Rattle.claims.specs.Code.{Slice, SliceMut}
 
 -- what is written of each number; zero, which stands alone too, is never written as an address
 pub record OlderFields : Type 0 where
@@ -259,16 +259,16 @@ pub record OlderCode : Type 0 where
       → fields_answer (Found f k) ≡ record { refusal = 0; length = f.length; source = f.source.number; destination = f.destination.number; place = k }
   pub not_found : (n : ℕ) → fields_answer (Refused n) ≡ record { refusal = n; length = 0; source = 0; destination = 0; place = 0 }
   pub one_answer : (p : List ℕ) (r s : Reading) → fields_answer r ≡ reading p → fields_answer s ≡ reading p → r ≡ s
-  pub nsa_write_asks : (κs : Lfts 1) (l : ℕ) (s d : Address) (out : Slice) → write-reads.Asked κs (l, (s, (d, (out, tt))))
-  pub nsa_write : (κs : Lfts 1) (l : ℕ) (s d : Address) (out out' : Slice) (r : Written)
+  pub nsa_write_asks : (κs : Lfts 1) (l : ℕ) (s d : Address) (out : SliceMut) → write-reads.Asked κs (l, (s, (d, (out, tt))))
+  pub nsa_write : (κs : Lfts 1) (l : ℕ) (s d : Address) (out out' : SliceMut) (r : Written)
       → write-reads.Learnt κs (l, (s, (d, (out, tt)))) r (l, (s, (d, (out', tt))))
       → (◌≡◌ {A = WriteEffect} record { answer = r; buffer = out'.now } (writing l s.number d.number out.now))
       × (s.number < 2 ^ 64) × (d.number < 2 ^ 64)
   pub nsa_read_asks : (κs : Lfts 1) (p : Slice) → read-reads.Asked κs (p, tt)
   pub nsa_read : (κs : Lfts 1) (p : Slice) (r : Reading) → read-reads.Learnt κs (p, tt) r (p, tt)
       → (fields_answer r ≡ reading p.now) × AreOctets p.now
-  pub pasa_nsa_write_asks : (κs : Lfts 1) (l s d : ℕ) (out : Slice) → nsa-write-reads.Asked κs (l, (s, (d, (out, tt))))
-  pub pasa_nsa_write : (κs : Lfts 1) (l s d : ℕ) (out out' : Slice) (r : PasaWritten)
+  pub pasa_nsa_write_asks : (κs : Lfts 1) (l s d : ℕ) (out : SliceMut) → nsa-write-reads.Asked κs (l, (s, (d, (out, tt))))
+  pub pasa_nsa_write : (κs : Lfts 1) (l s d : ℕ) (out out' : SliceMut) (r : PasaWritten)
       → nsa-write-reads.Learnt κs (l, (s, (d, (out, tt)))) r (l, (s, (d, (out', tt))))
       → (r ≡ pasa_written (writing l s d out.now).answer) × (out'.now ≡ (writing l s d out.now).buffer) × (s < 2 ^ 64) × (d < 2 ^ 64)
   pub pasa_nsa_read_asks : (κs : Lfts 1) (p : Slice) → nsa-read-reads.Asked κs (p, tt)
@@ -283,12 +283,12 @@ pub record OlderCode : Type 0 where
 -- the sentence at the exports: "Whatever is accepted is what we would write, and the reverse."
 pub record OlderInCode : Type 0 where
   -- whatever `pasa_nsa_write` leaves in a buffer, done, `pasa_nsa_read` reads as what was handed in, with anything behind it
-  pub reads_back : (κs κs' : Lfts 1) (l s d : ℕ) (out out' p : Slice) (behind : List ℕ) (w : PasaWritten) (r : PasaNsa)
+  pub reads_back : (κs κs' : Lfts 1) (l s d : ℕ) (out out' : SliceMut) (p : Slice) (behind : List ℕ) (w : PasaWritten) (r : PasaNsa)
       → nsa-write-reads.Learnt κs (l, (s, (d, (out, tt)))) w (l, (s, (d, (out', tt)))) → w.refusal ≡ 0 → p.now ≡ out'.now ++ behind
       → nsa-read-reads.Learnt κs' (p, tt) r (p, tt)
       → r ≡ record { length = l; source = s; destination = d; place = w.count; refusal = 0 }
   -- and whatever `pasa_nsa_read` accepts, `pasa_nsa_write` writes into a buffer that has room, octet for octet
-  pub writes_back : (κs κs' : Lfts 1) (p out out' : Slice) (r : PasaNsa) (w : PasaWritten)
+  pub writes_back : (κs κs' : Lfts 1) (p : Slice) (out out' : SliceMut) (r : PasaNsa) (w : PasaWritten)
       → nsa-read-reads.Learnt κs (p, tt) r (p, tt) → r.refusal ≡ 0 → r.place ≤ length out.now
       → nsa-write-reads.Learnt κs' (r.length, (r.source, (r.destination, (out, tt)))) w (r.length, (r.source, (r.destination, (out', tt))))
       → (w ≡ record { count = r.place; refusal = 0 }) × (take r.place out'.now ≡ take r.place p.now)
