@@ -96,7 +96,7 @@ module _ {a d : ℕ} (up down : ℕ) (h : IsAddress a) (l : IsAddress d) (e : le
   unfolding path path_of
   path-upwards =
       let x = turn (steps a) (steps d) in
-      rw (add-one down, upwards_snoc down x l (turning_points (steps a) (steps d)).of_second f, reverse-append, map-append, map-reverse, upwards-deeper up (length x) h e, upwards-deeper down (length x) l f)
+      rw (add-one down, upwards_snoc down x l (turning_points (steps a) (steps d)).of_second f, reverse-append, map-append, map-reverse address_of, upwards-deeper up (length x) h e, upwards-deeper down (length x) l f)
 
 pub up_and_down_lem : UpAndDown
 up_and_down_lem a d h l =

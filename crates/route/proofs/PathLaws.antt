@@ -16,7 +16,7 @@ use Rattle.address.specs.Ancestors.{AncestorOrSelf}
 use Rattle.address.proofs.Numbers.{bit_length-le}
 use Rattle.address.proofs.Steps.{address_of-steps, address_of-root, parent-address_of, depth_range}
 use Rattle.address.proofs.Ancestors.{routers-above, length-tail, address-tail, steps-tail, steps_injective}
-use Rattle.route.specs.Path.{is_ancestor_or_self, turn, deeper, path_of, path, hops}
+use Rattle.route.specs.Path.{is_ancestor_or_self, turn, path_of, path, hops}
 use Rattle.route.proofs.Turning.{ancestor_or_self_root, ancestor_or_self_next, is_ancestor_or_self_true, is_ancestor_or_self_false, path_of_self, path_of_up, path_of-down, path_of-first, path_of-last, length-path_of, length-path_of-cons, mem_path_of}
 
 -- an ancestor-or-self, as an address

@@ -1,5 +1,6 @@
 // The path between two addresses, into lent words: specs/Path.antt says what it is.
 #![tactic(auto)]
+
 ghost use Rattle.std.specs.Prelude.{◌≡◌, reverse, ◌+◌, ◌*◌, ◌<◌, length};
 ghost use Rattle.address.specs.Bits.{bits, number};
 ghost use Rattle.address.specs.Steps.{steps};
@@ -38,7 +39,8 @@ fn marked(address: Address) -> u64
 
 // The steps of an address behind its first bit and `common` more.
 fn steps_behind(address: Address, common: u32) -> u32
-    requires { (0 < address.number) × (common < 64) }
+    requires some { 0 < address.number }
+    requires short { common < 64 }
     ensures { result ≡ steps_behind common address.number }
 {
     let zeros = u64::count_ones(marked(address) << common);
@@ -52,8 +54,10 @@ fn steps_behind(address: Address, common: u32) -> u32
 // that either has behind these are its way. Ones of the longer address may be taken for common bits where the shorter one has ended: they
 // are no steps. The last place of both words is empty, so the 1 set there hides no difference, and it keeps the count below 64.
 fn count_ways(first: Address, second: Address) -> Ways
-    requires { (0 < first.number) × (0 < second.number) }
-    ensures { (length (turn (steps first.number) (steps second.number)) + result.up ≡ depth first.number) × (length (turn (steps first.number) (steps second.number)) + result.down ≡ depth second.number) }
+    requires first_some { 0 < first.number }
+    requires second_some { 0 < second.number }
+    ensures up { length (turn (steps first.number) (steps second.number)) + result.up ≡ depth first.number }
+    ensures down { length (turn (steps first.number) (steps second.number)) + result.down ≡ depth second.number }
 {
     if first.number == second.number {
         return Ways { up: 0, down: 0 };
@@ -92,7 +96,8 @@ fn list_down(second: Address, words: &mut [u64])
 
 // Lists the path from the first address to the second.
 pub fn path(first: Address, second: Address, words: &mut [u64]) -> Listed
-    ensures { (result ≡ (listing first.number second.number words.old).answer) × (words.new ≡ (listing first.number second.number words.old).words) }
+    ensures answer { result ≡ (listing first.number second.number words.old).answer }
+    ensures words { words.new ≡ (listing first.number second.number words.old).words }
 {
     if first.number == 0 {
         return Listed {
