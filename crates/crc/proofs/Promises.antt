@@ -4,7 +4,7 @@ use mathlib.Core.Path.{◌≡◌}
 use mathlib.Core.List.{List}
 use Prim.Native.Nat.{ℕ, ◌<◌}
 use contract.Lifetimes.{Lfts}
-use denote.Ref.{Bor}
+use Rattle.std.specs.Borrow.{Bor}
 use Rattle.crc.specs.Crc.{crc}
 use Rattle.crc.specs.Checks.{remainder}
 use Rattle.crc.proofs.crc.Reads as crc-reads

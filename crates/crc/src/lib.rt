@@ -1,5 +1,6 @@
 // The check of a block: specs/Crc.antt has it bit by bit, and here it takes half an octet at a time.
 #![tactic(auto)]
+
 ghost use Rattle.std.specs.Prelude.{◌≡◌, ◌<◌};
 ghost use Rattle.crc.specs.Crc.{shift_bits, shift_octet, crc};
 ghost use Rattle.crc.specs.Checks.{remainder};
