@@ -1,6 +1,7 @@
 -- What the code computes is what the functions on an address answer. A host's number is odd and above 1, and the depth is the count of
 -- zeros, with one more for a host, since each step that leads to a router ends with the one zero that it has. Half of a number ends with the
 -- ones of its last step, which the trailing zeros of one more count, with the first bit of all where the parent is the root.
+use Rattle.std.specs.Prelude.{if◌then◌else◌}
 use mathlib.Core.Path.{◌≡◌, refl, sym, ap, ◌∙◌}
 use mathlib.Core.Bool.{Bool, true, false, ◌&&◌}
 use mathlib.Core.List.{List, [], ◌∷◌, ◌++◌, append_assoc}
@@ -13,7 +14,6 @@ use lib.ListN.{length}
 use lib.Pow.{pow_mono, pow_pos, high, ones_lt}
 use lib.Bits.{shifted_half, shifted_even}
 use lib.Count.{ones, ones_cat, ones-ones, under, count_trailing_zeros}
-use Rattle.address.specs.Choice.{if◌then◌else◌}
 use Rattle.address.specs.Bits.{Bit, O, I, last_bit, bits_in, bits, digit, longest, root}
 use Rattle.address.specs.Steps.{Kind, router, host, Step, child, last_step, cut, steps_of, steps, last_of, step_bits, spelled, address_of}
 use Rattle.address.specs.Address.{bit_length, ends_in_one, is_host, depth, above, parent}

@@ -1,10 +1,10 @@
 -- What is known where a check found no fault: a choice between a fault's number and what the next check says is 0 only by the next check.
 -- Assumes nothing.
+use Rattle.std.specs.Prelude.{if◌then◌else◌}
 use mathlib.Core.Path.{◌≡◌, refl}
 use mathlib.Core.Bool.{Bool, true, false}
 use Prim.Native.Nat.{ℕ, suc}
 use native.Mathlib.Omega.{arith}
-use Rattle.address.specs.Choice.{if◌then◌else◌}
 
 pub if-zero : (t : Bool) (fault rest : ℕ) → (if t then suc fault else rest) ≡ 0 → (t ≡ false) × (rest ≡ 0)
 if-zero true fault rest e = absurd (omega arith)

@@ -1,5 +1,6 @@
 -- Bit strings that begin with 1 and numbers above zero are one to one. One more bit behind a string is one more digit behind its number
 -- (`bits_snoc`, `number_snoc`), so both ways round follow by induction, one on the digits that are left and one on the string.
+use Rattle.std.specs.Prelude.{if◌then◌else◌}
 use mathlib.Core.Path.{◌≡◌, refl, sym, ap, ◌∙◌}
 use mathlib.Core.Logic.{◌⊎◌, inl, inr}
 use mathlib.Core.List.{List, [], ◌∷◌, ◌++◌, append_assoc, append-nil}
@@ -11,7 +12,6 @@ use lib.ListN.{length, replicate, length-append}
 use lib.Dec.{eqb}
 use lib.Pow.{pow_mono, pow_pos}
 use lib.Count.{count_leading_zeros}
-use Rattle.address.specs.Choice.{if◌then◌else◌}
 use Rattle.address.specs.Bits.{Bit, O, I, last_bit, bits_in, bits, digit, number_from, number, longest, root}
 use Rattle.address.specs.Address.{bit_length}
 use Rattle.address.specs.Numbers.{IsAddressString, IsAddress, OneToOne}

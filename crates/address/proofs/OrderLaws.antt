@@ -1,9 +1,9 @@
 -- The first condition of an order that holds: there is one number, and a chain of tests finds it.
+use Rattle.std.specs.Prelude.{if◌then◌else◌}
 use Prim.Native.Nat.{ℕ, ◌<◌}
 use mathlib.Core.Path.{◌≡◌, refl, sym, subst, ◌∙◌}
 use mathlib.Core.Bool.{Bool, true, false}
 use mathlib.Core.Logic.{inl, inr}
-use Rattle.address.specs.Choice.{if◌then◌else◌}
 use native.Mathlib.Omega.{arith}
 use Rattle.address.specs.Order.{Order, done, ◌when◌otherwise◌, ◌then◌, First, GivenExactly}
 

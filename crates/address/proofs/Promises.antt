@@ -1,12 +1,12 @@
 -- What the functions of this crate promise, by their contracts as the code states them, is what the definitions say, and none of them asks
 -- anything of its caller.
+use Rattle.std.specs.Prelude.{if◌then◌else◌}
 use mathlib.Core.Path.{◌≡◌, refl, sym, ap, ◌∙◌}
 use mathlib.Core.Bool.{Bool, true, false}
 use Prim.Native.Nat.{ℕ}
 use native.Mathlib.Omega.{arith}
 use lib.Dec.{eqb}
 use borrow.Author.Tests.{eqb-false}
-use Rattle.address.specs.Choice.{if◌then◌else◌}
 use Rattle.address.specs.Bits.{longest, root}
 use Rattle.address.specs.Address.{Address, Made, Valid, Refused, AddressAnswer, refused_address, valid_address, made_answer, made, bit_length, is_host, depth, parent}
 use Rattle.address.proofs.Address.of.Reads as of-reads

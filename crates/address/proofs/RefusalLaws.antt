@@ -1,11 +1,11 @@
 -- Making an address is refused exactly where the number is zero. Assumes nothing.
+use Rattle.std.specs.Prelude.{if◌then◌else◌}
 use mathlib.Core.Path.{◌≡◌, refl}
 use mathlib.Core.Bool.{Bool, true, false}
 use Prim.Native.Nat.{ℕ}
 use native.Mathlib.Omega.{arith}
 use borrow.Author.Tests.{eqb-true, eqb-false}
 use lib.Dec.{eqb}
-use Rattle.address.specs.Choice.{if◌then◌else◌}
 use Rattle.address.specs.Order.{done}
 use Rattle.address.specs.Address.{AddressAnswer, valid_address, refused_address, made}
 use Rattle.address.specs.Refusals.{address_order, AddressRefusals}

@@ -1,7 +1,6 @@
 -- What the functions on an address answer, also for zero, which is no address: there document 01 is silent, and bit length, depth and
 -- parent are 0.
-use Rattle.std.specs.Prelude.{ℕ, Bool, true, false, ◌&&◌, List, [], ◌∷◌, length, eqb, ltb}
-use Rattle.address.specs.Choice.{if◌then◌else◌}
+use Rattle.std.specs.Prelude.{ℕ, Bool, true, false, ◌&&◌, List, [], ◌∷◌, length, eqb, ltb, if◌then◌else◌}
 use Rattle.address.specs.Bits.{Bit, O, I, bits}
 use Rattle.address.specs.Steps.{Step, steps, address_of}
 pub use Rattle.address.specs.declared.Address.{Address}

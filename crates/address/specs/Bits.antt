@@ -1,7 +1,6 @@
 -- Bit strings, and the number that holds one. "An address is a string of 1 to 64 bits whose first bit is 1. It is held right-justified in
 -- a 64-bit number, so the address is any number but zero." Bits stand most significant first.
-use Rattle.std.specs.Prelude.{ℕ, zero, suc, ◌+◌, ◌*◌, ◌/◌, ◌%◌, List, [], ◌∷◌, ◌++◌, eqb}
-use Rattle.address.specs.Choice.{if◌then◌else◌}
+use Rattle.std.specs.Prelude.{ℕ, zero, suc, ◌+◌, ◌*◌, ◌/◌, ◌%◌, List, [], ◌∷◌, ◌++◌, eqb, if◌then◌else◌}
 
 pub data Bit : Type 0 where
   O I : Bit

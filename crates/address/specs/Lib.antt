@@ -1,5 +1,4 @@
 -- What the address crate promises, in definitions and statements alone.
-pub mod Choice
 pub mod Order
 pub mod Bits
 pub mod Steps

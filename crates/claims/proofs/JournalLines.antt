@@ -1,4 +1,5 @@
 -- The front page's lines on a journal, each taken from the record that carries it. Assumes nothing.
+use Rattle.std.specs.Prelude.{if◌then◌else◌}
 use Prim.Native.Nat.{ℕ, suc, ◌+◌, ◌-◌, ◌/◌, ◌%◌, ◌^◌, ◌≤◌}
 use mathlib.Core.Path.{◌≡◌, refl, sym, ap, ap₂, subst, ◌∙◌}
 use mathlib.Core.Bool.{Bool, true, false, not, ◌&&◌, and_false}
@@ -19,7 +20,6 @@ use Rattle.crc.proofs.ShiftLaws.{crc-fits, halves}
 use Rattle.crc.proofs.Table.{table_rule, by_table_lem}
 use Rattle.crc.proofs.Known.{known_checks}
 use Rattle.crc.proofs.WrongChecks.{wrong_checks}
-use Rattle.address.specs.Choice.{if◌then◌else◌}
 use Rattle.node.specs.Node.{fresh, with_counts, count}
 use Rattle.block.specs.Block.{spread, content, block, is_count, block_put, addresses_in, is_block}
 use Rattle.block.specs.Blocks.{IsBlockOf}

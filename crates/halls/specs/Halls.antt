@@ -1,8 +1,7 @@
 -- What is claimed of every plan: its requests are the letters of its text, they are answered as the plan's items are, and the tree that grows by
 -- them is the plan's hall, one of demand 3.
-use Rattle.std.specs.Prelude.{ℕ, ◌≡◌, ◌↔◌, length, eqb}
+use Rattle.std.specs.Prelude.{ℕ, ◌≡◌, ◌↔◌, length, eqb, if◌then◌else◌}
 use mathlib.Core.List.{List, [], ◌∷◌, map, Memᴰ}
-use Rattle.address.specs.Choice.{if◌then◌else◌}
 use Rattle.address.specs.Bits.{root}
 use Rattle.address.specs.declared.Kind.{Kind}
 use Rattle.address.specs.declared.Kind.TheVariants.{Router, Host}

@@ -1,5 +1,6 @@
 -- Each refusal of the header stands where the document puts it: at every condition of the order the definition, by the checks that have
 -- passed on the way, gives that condition's number. Assumes nothing.
+use Rattle.std.specs.Prelude.{if◌then◌else◌}
 use mathlib.Core.Path.{◌≡◌, refl, sym, ap, ap₂, subst, ◌∙◌}
 use mathlib.Core.Bool.{Bool, true, false}
 use mathlib.Core.Logic.Dec
@@ -11,7 +12,6 @@ use native.Mathlib.Omega.{arith}
 use borrow.Author.Tests.{eq-eqb, ne_eqb}
 use lib.Dec.{eqb, ltb, lit<}
 use lib.ListN.{length, drop, get_or, take-append-drop}
-use Rattle.address.specs.Choice.{if◌then◌else◌}
 use Rattle.address.specs.Order.{Order, done, ◌when◌otherwise◌, ◌then◌, First, GivenExactly}
 use Rattle.address.proofs.OrderLaws.{given-exactly, Numbered, first_then}
 use Rattle.octets.specs.Octets.{refuse_writing, write}

@@ -1,4 +1,5 @@
 -- The checks of the first octets, one octet at a time: `in_order` from an index on. Assumes nothing.
+use Rattle.std.specs.Prelude.{if◌then◌else◌}
 use mathlib.Core.Path.{◌≡◌, ap, ap₂, ◌∙◌}
 use mathlib.Core.Bool.{Bool, true, false}
 use mathlib.Core.List.{List, [], ◌∷◌}
@@ -8,7 +9,6 @@ use lib.Seq.{drop-cons}
 use lib.Dec.{eqb, lit≤}
 use borrow.Author.Tests.{eq-eqb, eqb-true}
 use native.Mathlib.Omega.{arith}
-use Rattle.address.specs.Choice.{if◌then◌else◌}
 use Rattle.address.proofs.ChoiceLaws.{else_zero}
 use Rattle.header.specs.Header.{in_order, start_fault, fixed_octets, page_octet, critical_pattern, routing_type, is_page_octet, has_critical_pattern, is_routing_type}
 

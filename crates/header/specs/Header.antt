@@ -1,8 +1,7 @@
 -- The packet header. "Packet: octet 0xF1 (page 1, RFC 8025); octet 100sssss, where sssss is the number of address octets less one (house
 -- choice); octet 15 as the type (house choice until a number is assigned); the address, most significant octet first; the payload", of which
 -- document 02 (Eight) says: "A packet whose payload is empty is refused with 16".
-use Rattle.std.specs.Prelude.{ℕ, ◌+◌, ◌*◌, ◌-◌, ◌/◌, ◌%◌, ◌≤◌, Bool, not, List, [], ◌∷◌, length, take, drop, get_or, eqb, ltb}
-use Rattle.address.specs.Choice.{if◌then◌else◌}
+use Rattle.std.specs.Prelude.{ℕ, ◌+◌, ◌*◌, ◌-◌, ◌/◌, ◌%◌, ◌≤◌, Bool, not, List, [], ◌∷◌, length, take, drop, get_or, eqb, ltb, if◌then◌else◌}
 use Rattle.address.specs.Address.{bit_length}
 use Rattle.octets.specs.Octets.{octets, value, WriteEffect, refuse_writing, write}
 pub use Rattle.header.specs.declared.Reading.{Reading}

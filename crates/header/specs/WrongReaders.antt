@@ -1,6 +1,5 @@
 -- Wrong readers, which the statement of demand 2 or of demand 1 must exclude.
-use Rattle.std.specs.Prelude.{◌&&◌, ◌+◌, ◌%◌, eqb, ltb, leb, length}
-use Rattle.address.specs.Choice.{if◌then◌else◌}
+use Rattle.std.specs.Prelude.{◌&&◌, ◌+◌, ◌%◌, eqb, ltb, leb, length, if◌then◌else◌}
 use Rattle.octets.specs.Octets.{value}
 use Rattle.header.specs.Header.{most_octets, fixed_octets, octets_reading, reading, found, refused_header, start_fault, size_told, address_octets}
 use Rattle.header.specs.RoundTrip.{HeaderReader}

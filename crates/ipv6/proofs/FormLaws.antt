@@ -1,5 +1,6 @@
 -- What `form_writing` and `form_reading` come to, one law for each answer: the checks that passed on the way, and the one that decides. Assumes
 -- nothing.
+use Rattle.std.specs.Prelude.{if◌then◌else◌}
 use mathlib.Core.Path.{◌≡◌, refl, ap, ◌∙◌}
 use mathlib.Core.Bool.{Bool, true, false, not, ◌&&◌, and-eq-true_iff}
 use mathlib.Core.List.{List}
@@ -8,7 +9,6 @@ use native.Mathlib.Omega.{arith}
 use lib.ListN.{length, take, drop, length-append}
 use lib.Dec.{eqb}
 use borrow.Author.Tests.{eq-eqb, ne_eqb, lt-ltb, le-ltb, not-false, eqb-true, eqb-false}
-use Rattle.address.specs.Choice.{if◌then◌else◌}
 use Rattle.address.specs.Address.{AddressAnswer, valid_address, refused_address, made}
 use Rattle.octets.specs.Octets.{value, same, refuse_writing, write}
 use Rattle.octets.proofs.OctetLaws.{length-octets}

@@ -1,5 +1,6 @@
 -- Each refusal of the IPv6 form stands where the document puts it: at every condition of the order the definition, by the checks that have
 -- passed on the way, gives that condition's number. Assumes nothing.
+use Rattle.std.specs.Prelude.{if◌then◌else◌}
 use mathlib.Core.Path.{◌≡◌, refl, sym, ap, ◌∙◌}
 use mathlib.Core.Bool.{Bool, true, false, not, ◌&&◌}
 use mathlib.Core.Logic.Dec
@@ -10,7 +11,6 @@ use native.Mathlib.Decide.{ℕ_discrete, dec_lt}
 use native.Mathlib.Omega.{arith}
 use lib.Dec.{eqb, ltb}
 use lib.ListN.{length, take, drop, replicate, length-drop, take-append-drop}
-use Rattle.address.specs.Choice.{if◌then◌else◌}
 use Rattle.address.specs.Order.{First}
 use Rattle.address.specs.Address.{AddressAnswer, valid_address, refused_address}
 use Rattle.address.proofs.OrderLaws.{given-exactly}

@@ -1,7 +1,6 @@
 -- The IPv6 form of an address. "IPv6: prefix of 8 octets, then the address in 8 octets padded with leading zeros (003, 6.3). Back: the first
 -- 8 octets must equal the prefix; the other 8 are the address."
-use Rattle.std.specs.Prelude.{ℕ, not, ◌&&◌, List, ◌++◌, length, take, drop, eqb, ltb}
-use Rattle.address.specs.Choice.{if◌then◌else◌}
+use Rattle.std.specs.Prelude.{ℕ, not, ◌&&◌, List, ◌++◌, length, take, drop, eqb, ltb, if◌then◌else◌}
 use Rattle.address.specs.Address.{AddressAnswer, valid_address, refused_address}
 use Rattle.octets.specs.Octets.{octets, value, same, WriteEffect, refuse_writing, write}
 

@@ -1,6 +1,5 @@
 -- A wrong reader, which demand 2 must exclude.
-use Rattle.std.specs.Prelude.{eqb, length, take}
-use Rattle.address.specs.Choice.{if◌then◌else◌}
+use Rattle.std.specs.Prelude.{eqb, length, take, if◌then◌else◌}
 use Rattle.ipv6.specs.Form.{whole, form_reading}
 use Rattle.ipv6.specs.RoundTrip.{FormReader}
 

@@ -1,6 +1,5 @@
 -- Wrong writers, which demand 2 must exclude.
-use Rattle.std.specs.Prelude.{not, [], ◌∷◌, ◌++◌, eqb, length, take, set}
-use Rattle.address.specs.Choice.{if◌then◌else◌}
+use Rattle.std.specs.Prelude.{not, [], ◌∷◌, ◌++◌, eqb, length, take, set, if◌then◌else◌}
 use Rattle.octets.specs.Octets.{wrote, refuse_writing, write}
 use Rattle.ipv6.specs.Form.{half, whole, form, form_writing}
 use Rattle.ipv6.specs.RoundTrip.{FormWriter}

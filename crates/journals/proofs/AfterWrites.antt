@@ -1,12 +1,12 @@
 -- After a write: the block stands in the first erased slot, behind the written ones and before the other erased ones, so the journal comes to what
 -- it came to before and then to the block's addresses. Assumes nothing.
+use Rattle.std.specs.Prelude.{if◌then◌else◌}
 use Prim.Native.Nat.{ℕ, suc, ◌/◌, ◌<◌}
 use mathlib.Core.Path.{◌≡◌, refl, sym, ap, subst, ◌∙◌}
 use mathlib.Core.Bool.{Bool, true, false, not}
 use mathlib.Core.List.{List, [], ◌∷◌, ◌++◌, append_assoc, append-nil}
 use lib.Dec.{leb}
 use lib.ListN.{length}
-use Rattle.address.specs.Choice.{if◌then◌else◌}
 use Rattle.octets.specs.Octets.{AreOctets}
 use Rattle.block.specs.Block.{slot_bytes, block}
 use Rattle.block.specs.Blocks.{AreWords, IsCount}

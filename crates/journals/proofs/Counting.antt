@@ -1,4 +1,5 @@
 -- How many of some words are children of a node: word by word, a child of the kind counts as one and every other word as none. Assumes nothing.
+use Rattle.std.specs.Prelude.{if◌then◌else◌}
 use mathlib.Core.Path.{◌≡◌, refl}
 use mathlib.Core.Bool.{Bool, true, false, ◌&&◌}
 use mathlib.Core.Logic.{◌⊎◌, inl, inr}
@@ -7,7 +8,6 @@ use Prim.Native.Nat.{ℕ, suc, ◌+◌}
 use native.Mathlib.Omega.{arith}
 use borrow.Author.Tests.{eq-eqb, ne_eqb}
 use lib.Dec.{eqb}
-use Rattle.address.specs.Choice.{if◌then◌else◌}
 use Rattle.address.specs.Steps.{Step, child, steps}
 use Rattle.address.specs.Address.{parent}
 use Rattle.address.specs.Numbers.{IsAddress}

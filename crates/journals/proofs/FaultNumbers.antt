@@ -1,4 +1,5 @@
 -- Every fault is 14 or 17, since no other number is made on the way. Assumes nothing.
+use Rattle.std.specs.Prelude.{if◌then◌else◌}
 use Prim.Native.Nat.{ℕ}
 use mathlib.Core.Path.{◌≡◌, refl}
 use mathlib.Core.Bool.{Bool, true, false, not}
@@ -6,7 +7,6 @@ use mathlib.Core.Logic.{◌⊎◌, inl, inr}
 use mathlib.Core.List.{List, [], ◌∷◌, ◌++◌}
 use lib.Dec.{leb}
 use lib.ListN.{length}
-use Rattle.address.specs.Choice.{if◌then◌else◌}
 use Rattle.block.specs.Block.{is_block, addresses_in}
 use Rattle.journal.specs.Limits.{most_nodes}
 use Rattle.journal.specs.Replay.{Replay, known, fault, is_next, taken, next, follow, bare}

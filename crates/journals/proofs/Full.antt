@@ -1,5 +1,6 @@
 -- The addresses of a hall, cut into blocks of 63, go into 65 slots; behind as many nodes as are allowed a next child is 14, and a fault stays.
 -- Assumes nothing.
+use Rattle.std.specs.Prelude.{if◌then◌else◌}
 use Prim.Native.Nat.{ℕ, zero, suc, ◌*◌, ◌^◌, ◌≤◌, ◌<◌}
 use mathlib.Core.Path.{◌≡◌, refl, sym, ap, subst, ◌∙◌}
 use mathlib.Core.List.{List, [], ◌∷◌, ◌++◌, map}
@@ -11,7 +12,6 @@ use borrow.Author.Tests.{ltb-true, ltb-false, le-ltb}
 use lib.ListN.{length, take, drop, replicate, length-append, length-drop, length-map, take-append-drop}
 use Rattle.node.specs.Node.{child_of, set_limit}
 use Rattle.address.specs.Bits.{root}
-use Rattle.address.specs.Choice.{if◌then◌else◌}
 use Rattle.address.specs.Order.{First}
 use Rattle.address.proofs.OrderLaws.{given-exactly}
 use Rattle.octets.specs.Octets.{AreOctets}

@@ -1,5 +1,6 @@
 -- Recovery ends in one of four ways, each with its condition and with those before it passed: so each refusal is given exactly when the request
 -- says, and a journal recovers to the nodes that it is replayed to. Assumes nothing.
+use Rattle.std.specs.Prelude.{if◌then◌else◌}
 use Prim.Native.Nat.{ℕ, ◌-◌, ◌≤◌, ◌<◌}
 use mathlib.Core.Path.{◌≡◌, refl, sym, ap, subst, ◌∙◌}
 use mathlib.Core.Bool.{Bool, true, false, not}
@@ -10,7 +11,6 @@ use borrow.Author.Tests.{ltb-true, ltb-false, le-ltb}
 use lib.Dec.{ltb}
 use lib.ListN.{length, take, replicate, length-replicate}
 use lib.Seq.{take_at}
-use Rattle.address.specs.Choice.{if◌then◌else◌}
 use Rattle.address.specs.Order.{Order, First, done, ◌when◌otherwise◌}
 use Rattle.address.proofs.OrderLaws.{given-exactly}
 use Rattle.octets.specs.Octets.{AreOctets}

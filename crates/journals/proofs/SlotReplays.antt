@@ -1,10 +1,10 @@
 -- Slots taken one after the other: a fault stays, erased slots leave what is known, and torn slots and blocks come to their addresses one after
 -- the other. Assumes nothing.
+use Rattle.std.specs.Prelude.{if◌then◌else◌}
 use Prim.Native.Nat.{ℕ}
 use mathlib.Core.Path.{◌≡◌, refl, sym, ap, ap₂, subst, ◌∙◌}
 use mathlib.Core.Bool.{Bool, true, false}
 use mathlib.Core.List.{List, [], ◌∷◌, ◌++◌, append-nil, append_assoc}
-use Rattle.address.specs.Choice.{if◌then◌else◌}
 use Rattle.block.specs.Block.{is_block, addresses_in}
 use Rattle.block.specs.Blocks.{AreWords, IsBlockOf}
 use Rattle.journal.specs.Replay.{Replay, fault, follow}

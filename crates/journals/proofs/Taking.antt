@@ -1,5 +1,6 @@
 -- One address more, in a tree that is sound: it is no next child, or the nodes are all that there may be, or it is put behind them; and the
 -- answer says which. Assumes nothing.
+use Rattle.std.specs.Prelude.{if◌then◌else◌}
 use mathlib.Core.Path.{◌≡◌, refl, sym, ◌∙◌}
 use mathlib.Core.Bool.{Bool, true, false, not, false≢true}
 use mathlib.Core.Logic.{◌⊎◌, inl, inr, ◌↔◌}
@@ -9,7 +10,6 @@ use native.Mathlib.Omega.{arith}
 use lib.Dec.{leb}
 use lib.ListN.{length}
 use borrow.Author.Tests.{leb-true, leb-false}
-use Rattle.address.specs.Choice.{if◌then◌else◌}
 use Rattle.address.specs.Bits.{longest}
 use Rattle.tree.specs.Tree.{Tree, addresses}
 use Rattle.tree.proofs.Sound.{Sound}

@@ -1,5 +1,6 @@
 -- The writer ends in one of five ways, each with its condition and with those before it passed: so each refusal is given exactly when the request
 -- says, and without one the block stands in the first erased slot. Assumes nothing.
+use Rattle.std.specs.Prelude.{if◌then◌else◌}
 use Prim.Native.Nat.{ℕ, ◌≤◌, ◌<◌}
 use mathlib.Core.Path.{◌≡◌, refl, sym, ap, subst, ◌∙◌}
 use mathlib.Core.Bool.{Bool, true, false, not, ◌&&◌, true≢false}
@@ -9,7 +10,6 @@ use native.Mathlib.Omega.{arith}
 use borrow.Author.Tests.{leb-true, leb-false, lt-leb, ne_eqb}
 use lib.Dec.{leb}
 use lib.ListN.{length}
-use Rattle.address.specs.Choice.{if◌then◌else◌}
 use Rattle.address.specs.Order.{Order, First, done, ◌when◌otherwise◌}
 use Rattle.address.proofs.OrderLaws.{given-exactly}
 use Rattle.octets.specs.Octets.{AreOctets}

@@ -1,5 +1,6 @@
 -- Each wrong writer is refuted by one journal: of one erased slot, of two, or of one torn slot, with the block of the root's first router, or of an
 -- address that is no next child. What stands there comes from laws, not from computing 512 bytes. Assumes nothing.
+use Rattle.std.specs.Prelude.{if◌then◌else◌}
 use Prim.Native.Nat.{ℕ, suc, ◌≤◌, ◌<◌}
 use mathlib.Core.Path.{◌≡◌, refl, sym, ap, ◌∙◌}
 use mathlib.Core.Bool.{false}
@@ -8,7 +9,6 @@ use native.Mathlib.Omega.{arith}
 use lib.Dec.{eqb, lit<}
 use lib.ListN.{length, get_or, replicate, length-append, length-replicate, get_or-replicate}
 use borrow.Author.Tests.{lt-leb}
-use Rattle.address.specs.Choice.{if◌then◌else◌}
 use Rattle.block.specs.Block.{block}
 use Rattle.block.specs.Blocks.{AreWords, IsCount}
 use Rattle.block.proofs.Cases.{is_count_true}

@@ -1,6 +1,5 @@
 -- Wrong recoveries, which the claims must exclude: each goes by the right one with one part or one number exchanged.
-use Rattle.std.specs.Prelude.{ℕ, ◌≡◌, Bool, false, not, List, [], ◌∷◌, ◌++◌, length, drop, leb, ltb}
-use Rattle.address.specs.Choice.{if◌then◌else◌}
+use Rattle.std.specs.Prelude.{ℕ, ◌≡◌, Bool, false, not, List, [], ◌∷◌, ◌++◌, length, drop, leb, ltb, if◌then◌else◌}
 use Rattle.node.specs.Node.{with_limits}
 use Rattle.block.specs.Block.{is_block, addresses_in}
 use Rattle.journal.specs.Limits.{most_nodes}

@@ -1,6 +1,5 @@
 -- Wrong writers, which the claims must exclude: each goes by the right one with one part exchanged. And an order of bytes that is not theirs.
-use Rattle.std.specs.Prelude.{ℕ, zero, suc, not, ◌&&◌, List, [], ◌∷◌, length, eqb}
-use Rattle.address.specs.Choice.{if◌then◌else◌}
+use Rattle.std.specs.Prelude.{ℕ, zero, suc, not, ◌&&◌, List, [], ◌∷◌, length, eqb, if◌then◌else◌}
 use Rattle.block.specs.Block.{is_count, block}
 use Rattle.journal.specs.Replay.{follow}
 use Rattle.journal.specs.Slots.{slot_count, slots_of, ends_erased, replayed, written_slots}

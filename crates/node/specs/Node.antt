@@ -1,7 +1,6 @@
 -- A node's record, the request for a child and the setting of a limit. "A node record is its address with two counts: router children and host
 -- children given so far."; "A node record gains two limits, routers and hosts" (document 02, Five).
-use Rattle.std.specs.Prelude.{ℕ, ◌+◌, ◌-◌, Bool, false, not, ◌&&◌, List, ◌++◌, length, eqb, leb, ltb}
-use Rattle.address.specs.Choice.{if◌then◌else◌}
+use Rattle.std.specs.Prelude.{ℕ, ◌+◌, ◌-◌, Bool, false, not, ◌&&◌, List, ◌++◌, length, eqb, leb, ltb, if◌then◌else◌}
 use Rattle.address.specs.Bits.{Bit, bits, number, longest}
 use Rattle.address.specs.Address.{bit_length, is_host}
 use Rattle.address.specs.Steps.{child, step_bits}

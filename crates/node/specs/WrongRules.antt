@@ -1,7 +1,6 @@
 -- Wrong rules for a child and for a setting that give a wrong refusal, or a right one with something beside it: what demand 1 must exclude. Each
 -- goes by the right rule with a part exchanged.
-use Rattle.std.specs.Prelude.{ℕ, ◌+◌, ◌-◌, ◌%◌, Bool, false, not, ◌&&◌, length, eqb, leb, ltb}
-use Rattle.address.specs.Choice.{if◌then◌else◌}
+use Rattle.std.specs.Prelude.{ℕ, ◌+◌, ◌-◌, ◌%◌, Bool, false, not, ◌&&◌, length, eqb, leb, ltb, if◌then◌else◌}
 use Rattle.address.specs.Bits.{bits, number, longest}
 use Rattle.address.specs.Address.{bit_length, ends_in_one, is_host}
 use Rattle.address.specs.declared.Kind.{Kind}

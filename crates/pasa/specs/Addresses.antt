@@ -1,6 +1,5 @@
 -- What an address answers by itself, where a plain number stands for the answer; and the number of the interface.
-use Rattle.std.specs.Prelude.{ℕ}
-use Rattle.address.specs.Choice.{if◌then◌else◌}
+use Rattle.std.specs.Prelude.{ℕ, if◌then◌else◌}
 use Rattle.address.specs.Address.{is_host}
 
 -- a host as a number: 1 for a host, 0 for any other

@@ -1,8 +1,7 @@
 -- "a reader that keeps hold of the lent journal and its place .. which from the first slot on gives the same answers": asked until it is done, it
 -- comes to what recovery gives, whatever was lent. A statement of any reader.
-use Rattle.std.specs.Prelude.{ℕ, zero, suc, ◌≡◌, true, List, length, eqb}
+use Rattle.std.specs.Prelude.{ℕ, zero, suc, ◌≡◌, true, List, length, eqb, if◌then◌else◌}
 use Rattle.std.specs.Borrow.{Bor}
-use Rattle.address.specs.Choice.{if◌then◌else◌}
 use Rattle.journal.specs.Slots.{slot_count}
 use Rattle.journal.specs.Recovery.{RecoverEffect, unfit, refuse_recovery, recovering}
 use Rattle.journal.specs.Reader.{State, begin, finished}

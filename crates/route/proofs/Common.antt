@@ -1,5 +1,6 @@
 -- The turning point by bits. The bits that two strings begin with cut the same routers from both, and the steps behind these differ, so the
 -- turning point of two addresses that differ has as many steps as their common first bits have zeros. Assumes nothing.
+use Rattle.std.specs.Prelude.{if◌then◌else◌}
 use mathlib.Core.Path.{◌≡◌, refl, sym, ap, ◌∙◌}
 use mathlib.Core.List.{List, [], ◌∷◌, ◌++◌}
 use Prim.Native.Nat.{ℕ, zero, suc, ◌+◌, ◌≤◌, ◌<◌}
@@ -8,7 +9,6 @@ use native.Mathlib.Numerals.{add-one}
 use native.Mathlib.Omega.{arith}
 use lib.ListN.{length, drop}
 use lib.Seq.{drop-nil}
-use Rattle.address.specs.Choice.{if◌then◌else◌}
 use Rattle.address.specs.Bits.{Bit, O, I, bits, number}
 use Rattle.address.specs.Steps.{Step, child, last_step, cut, steps_of, steps}
 use Rattle.address.specs.declared.Kind.TheVariants.{Router as router, Host as host}

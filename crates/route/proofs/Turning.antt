@@ -1,5 +1,6 @@
 -- Turning points and paths, by steps. Whatever is on one way is told apart by its length alone (`ancestor_or_self_unique`), so the turning point is the
 -- only deepest one, from either side; a path then loses its first address with each step up or down. Assumes nothing.
+use Rattle.std.specs.Prelude.{if◌then◌else◌}
 use mathlib.Core.Path.{◌≡◌, refl, sym, ap, ◌∙◌}
 use mathlib.Core.Logic.{◌⊎◌, inl, inr, ⊎_elim}
 use mathlib.Core.Bool.{Bool, true, false, ◌&&◌, ◌||◌, and-eq-true_iff, or-true}
@@ -11,7 +12,6 @@ use native.Mathlib.Omega.{arith}
 use borrow.Author.Tests.{eq-eqb, eqb-true, lt-ltb, le-ltb, ltb-true, ltb-false}
 use lib.Dec.{eqb, ltb}
 use lib.ListN.{length, length-append, length-reverse}
-use Rattle.address.specs.Choice.{if◌then◌else◌}
 use Rattle.address.specs.Steps.{Step, child}
 use Rattle.address.specs.declared.Kind.{Kind}
 use Rattle.address.specs.declared.Kind.TheVariants.{Router as router, Host as host}

@@ -1,6 +1,5 @@
 -- What the functions inside the path call come to: the addresses of a way, by their parents, and its steps, by the zeros of its bits.
-use Rattle.std.specs.Prelude.{ℕ, zero, suc, ◌+◌, ◌-◌, List, [], ◌∷◌, ◌++◌, map, length, drop, replicate}
-use Rattle.address.specs.Choice.{if◌then◌else◌}
+use Rattle.std.specs.Prelude.{ℕ, zero, suc, ◌+◌, ◌-◌, List, [], ◌∷◌, ◌++◌, map, length, drop, replicate, if◌then◌else◌}
 use Rattle.address.specs.Bits.{Bit, O, I, bits, longest}
 use Rattle.address.specs.Address.{is_host, parent}
 

@@ -1,8 +1,7 @@
 -- The path between two addresses. "A path, given two addresses and no records, is the list from the first up to the deepest common
 -- ancestor-or-self and down to the second, both ends in it." It goes by steps, which are held last step first: an address's ancestors are
 -- the tails of its steps.
-use Rattle.std.specs.Prelude.{ℕ, ◌-◌, Bool, true, false, ◌&&◌, ◌||◌, List, [], ◌∷◌, ◌++◌, map, reverse, length, drop, eqb, ltb}
-use Rattle.address.specs.Choice.{if◌then◌else◌}
+use Rattle.std.specs.Prelude.{ℕ, ◌-◌, Bool, true, false, ◌&&◌, ◌||◌, List, [], ◌∷◌, ◌++◌, map, reverse, length, drop, eqb, ltb, if◌then◌else◌}
 use Rattle.address.specs.Steps.{Step, child, steps, address_of}
 use Rattle.address.specs.declared.Kind.{Kind}
 use Rattle.address.specs.declared.Kind.TheVariants.{Router, Host}

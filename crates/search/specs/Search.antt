@@ -1,7 +1,6 @@
 -- The search for the next child on the way to an address. "C is a proper prefix of D: look at D's bits after C one at a time and stop at the
 -- first 0 or at D's last bit. C with these bits is the child (000, 5.1 step 6)."
-use Rattle.std.specs.Prelude.{ℕ, ◌+◌, ◌-◌, Bool, true, false, ◌&&◌, List, [], ◌∷◌, length, take, drop}
-use Rattle.address.specs.Choice.{if◌then◌else◌}
+use Rattle.std.specs.Prelude.{ℕ, ◌+◌, ◌-◌, Bool, true, false, ◌&&◌, List, [], ◌∷◌, length, take, drop, if◌then◌else◌}
 use Rattle.address.specs.Bits.{Bit, O, I, bits, number}
 use Rattle.address.specs.declared.Kind.{Kind}
 use Rattle.address.specs.declared.Kind.TheVariants.{Router as router, Host as host}

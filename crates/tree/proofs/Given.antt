@@ -1,12 +1,12 @@
 -- The nodes of a grown tree are the root and the addresses that the replies give: a request or a setting keeps the addresses of the tree, since the
 -- record handed back keeps its own, and a request puts a child's behind them where it is given. Assumes nothing.
+use Rattle.std.specs.Prelude.{if◌then◌else◌}
 use mathlib.Core.Path.{◌≡◌, refl, sym, ap, ◌∙◌}
 use mathlib.Core.List.{List, [], ◌∷◌, ◌++◌, append-nil, append_assoc, map, map-append}
 use Prim.Native.Nat.{ℕ, zero, suc}
 use native.Mathlib.Omega.{arith}
 use borrow.Author.Tests.{ne_eqb}
 use lib.Dec.{eqb}
-use Rattle.address.specs.Choice.{if◌then◌else◌}
 use Rattle.address.specs.Bits.{root}
 use Rattle.node.specs.Node.{address_in, fresh, child_of, set_limit}
 use Rattle.address.specs.declared.Kind.{Kind}

@@ -1,8 +1,7 @@
 -- The tree of demand 3 (document 01, "The tree of demand 3"; document 02, Five), for any rule for a child and any rule for a setting, so that a
 -- wrong rule can be refuted.
-use Rattle.std.specs.Prelude.{ℕ, zero, suc, ◌≡◌, ◌⊎◌, eqb}
+use Rattle.std.specs.Prelude.{ℕ, zero, suc, ◌≡◌, ◌⊎◌, eqb, if◌then◌else◌}
 use mathlib.Core.List.{List, [], ◌∷◌, ◌++◌, map, Memᴰ}
-use Rattle.address.specs.Choice.{if◌then◌else◌}
 use Rattle.address.specs.Bits.{root}
 use Rattle.address.specs.Address.{parent}
 use Rattle.address.specs.declared.Kind.{Kind}

@@ -1,7 +1,6 @@
 -- Wrong rules for a child, which demand 3 must exclude. crates/node/specs/WrongRules.antt has those that demand 1 excludes; most of them leave demand 3
 -- true, since a child refused wrongly makes the tree smaller and no more, but one that gives past a limit (`past_limit`) does not.
-use Rattle.std.specs.Prelude.{not, ◌++◌, length, eqb, ltb}
-use Rattle.address.specs.Choice.{if◌then◌else◌}
+use Rattle.std.specs.Prelude.{not, ◌++◌, length, eqb, ltb, if◌then◌else◌}
 use Rattle.address.specs.Bits.{bits, number, longest}
 use Rattle.address.specs.Steps.{child, step_bits}
 use Rattle.address.specs.Address.{bit_length, is_host}

@@ -1,7 +1,6 @@
 -- Wrong rules for the next hop from octets, which demand 3 must exclude: the impostors and the slips of document 01. Each reads the packet
 -- as the right rule does; the slips go by the right rules with one part exchanged.
-use Rattle.std.specs.Prelude.{ℕ, Bool, false, not, ◌&&◌, List, [], ◌∷◌, ◌++◌, reverse, drop, eqb, ltb}
-use Rattle.address.specs.Choice.{if◌then◌else◌}
+use Rattle.std.specs.Prelude.{ℕ, Bool, false, not, ◌&&◌, List, [], ◌∷◌, ◌++◌, reverse, drop, eqb, ltb, if◌then◌else◌}
 use Rattle.address.specs.Bits.{Bit, O, I, bits, number}
 use Rattle.address.specs.Address.{bit_length, ends_in_one, is_host, parent}
 use Rattle.search.specs.Search.{looked_at, is_prefix, kind_looked, index_looked}

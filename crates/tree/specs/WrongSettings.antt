@@ -1,7 +1,6 @@
 -- Wrong rules for a setting of a limit, which demand 3 must exclude: they hand back a record with other counts, of another node, or a bad one. Demand 3
 -- does not see what a limit is set to as long as records stay good: crates/node/specs/WrongRules.antt has rules that demand 1 excludes.
-use Rattle.std.specs.Prelude.{eqb}
-use Rattle.address.specs.Choice.{if◌then◌else◌}
+use Rattle.std.specs.Prelude.{eqb, if◌then◌else◌}
 use Rattle.address.specs.declared.Kind.{Kind}
 use Rattle.node.specs.Node.{fresh, with_counts, raised, with_limit, set_limit}
 use Rattle.node.specs.declared.Node.{Node}

@@ -1,7 +1,7 @@
 -- `pasa_is_host` meets its contract: its test is that of `host_answer`. Assumes nothing.
+use Rattle.std.specs.Prelude.{if◌then◌else◌}
 use mathlib.Core.Path.{ap, sym, ◌∙◌}
 use mathlib.Core.Bool.{Bool}
-use Rattle.address.specs.Choice.{if◌then◌else◌}
 use Rattle.address.specs.Address.{is_host}
 use Rattle.pasa.specs.Addresses.{host_answer}
 use borrow.Author.Rules.{rules}

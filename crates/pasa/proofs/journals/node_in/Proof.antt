@@ -1,7 +1,7 @@
 -- `node_in` meets its contract: each exit is a side of the choice. Assumes nothing.
+use Rattle.std.specs.Prelude.{if◌then◌else◌}
 use mathlib.Core.Bool.{Bool}
 use mathlib.Core.Path.{sym, ap, ◌∙◌}
-use Rattle.address.specs.Choice.{if◌then◌else◌}
 use borrow.Author.Rules.{rules}
 use Rattle.pasa.specs.Children.{pasa_node}
 use Rattle.pasa.specs.Journals.{nobody, node_in}
