@@ -5,7 +5,7 @@ use mathlib.Core.Bool.{Bool}
 use mathlib.Core.List.{List}
 use Prim.Native.Nat.{ℕ}
 use contract.Lifetimes.{Lfts}
-use denote.Ref.{Bor}
+use Rattle.std.specs.Borrow.{Bor, MutBor}
 use Rattle.block.specs.Block.{block_put, all_are, is_block}
 use Rattle.block.proofs.put.Reads as put_reads
 use Rattle.block.proofs.all_are.Reads as all-are-reads
@@ -15,10 +15,14 @@ use Rattle.block.proofs.is_block.Reads as is-block-reads
 abbrev Slice : Type 0
 Slice = Bor (List ℕ)
 
-pub put-asks-nothing : (κs : Lfts 2) (addresses slot : Slice) → put_reads.Asked κs (addresses, (slot, tt))
+-- a slice of octets that is lent to be written
+abbrev MutSlice : Type 0
+MutSlice = MutBor (List ℕ)
+
+pub put-asks-nothing : (κs : Lfts 2) (addresses : Slice) (slot : MutSlice) → put_reads.Asked κs (addresses, (slot, tt))
 put-asks-nothing κs addresses slot = tt
 
-pub put_promise : (κs : Lfts 2) (addresses slot last : Slice)
+pub put_promise : (κs : Lfts 2) (addresses : Slice) (slot last : MutSlice)
     → put_reads.Learnt κs (addresses, (slot, tt)) tt (addresses, (last, tt))
     → last.now ≡ block_put addresses.now slot.now
 put_promise κs addresses slot last h = h

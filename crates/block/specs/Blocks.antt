@@ -1,7 +1,7 @@
 -- What is claimed of blocks, as of headers in demand 2: what is written reads back as itself, and what is accepted is what would have been written.
-use Rattle.std.specs.Prelude.{ℕ, ◌^◌, ◌<◌, ◌≤◌, ◌≡◌, true, false, ◌↔◌, List, [], ◌∷◌, length, get_or}
+use Rattle.std.specs.Prelude.{ℕ, ◌^◌, ◌<◌, ◌≤◌, ◌≡◌, true, ◌↔◌, List, [], ◌∷◌, length, get_or}
 use Rattle.octets.specs.Octets.{AreOctets}
-use Rattle.block.specs.Block.{slot_bytes, most_addresses, first_byte, last_byte, block, addresses_in, is_block, all_are}
+use Rattle.block.specs.Block.{slot_bytes, most_addresses, first_byte, last_byte, block, addresses_in, is_block}
 
 -- whatever stands in lent words has 64 bits
 abbrev pub AreWords : List ℕ → Type 0

@@ -1,5 +1,6 @@
 // A block of the journal, put into a slot, and whether a slot holds a right one: specs/Block.antt has the format.
 #![tactic(auto)]
+
 ghost use Rattle.std.specs.Prelude.{◌≡◌, ◌*◌, ◌≤◌, length, replicate};
 ghost use Rattle.octets.specs.Octets.{octets};
 ghost use Rattle.block.specs.Block.{most_addresses, checked, address_bytes, spread, content, block_put, all_are, is_block};
