@@ -1,10 +1,10 @@
 -- The slots taken one after the other come to what is replayed: one induction over the slots that are left. Assumes nothing.
-use Prim.Native.Nat.{ℕ, zero, suc, ◌+◌, ◌*◌, ◌-◌, ◌≤◌, ◌<◌}
+use Prim.Native.Nat.{ℕ, zero, suc, ◌+◌, ◌*◌, ◌≤◌, ◌<◌}
 use mathlib.Core.Path.{◌≡◌, refl, sym, ap, ap₂, ◌∙◌, subst}
 use mathlib.Core.Bool.{Bool, true, false}
 use mathlib.Core.List.{List, [], ◌∷◌, ◌++◌}
 use native.Mathlib.Omega.{arith}
-use borrow.Author.Tests.{le-leb, lt-leb, lt-ltb, le-ltb, ltb-true, ltb-false}
+use borrow.Author.Tests.{lt-leb, lt-ltb, le-ltb, ltb-false}
 use lib.Dec.{leb, ltb}
 use lib.ListN.{length, take, drop, set, replicate, length-set}
 use lib.Seq.{take-append_seam, drop-drop, take-suc-set}
@@ -15,10 +15,10 @@ use Rattle.journal.specs.Limits.{most_nodes}
 use Rattle.journal.specs.Replay.{Replay, known, fault, bare}
 use Rattle.journal.specs.Slots.{slots_in, slot_count, slots_of, is_erased, spoilt, not_erased, slot_taken, gap_after, replay, replayed, written_slots}
 use Rattle.journal.specs.Follows.{shown}
-use Rattle.journal.specs.Reader.{Progress, State, slot_at, written_after, moved, step, run, first, from, begin}
+use Rattle.journal.specs.Reader.{Progress, State, slot_at, written_after, moved, run, from, begin}
 use Rattle.journal.proofs.CountLaws.{Within}
-use Rattle.journal.proofs.SlotLaws.{slot_taken-erased, slot_taken_other, slot_taken-fault}
-use Rattle.journal.proofs.RunLaws.{stepped, run_none, run-done, run_step, OnTheWay, stepped-moved, stepped_within, stepped-way, from-way}
+use Rattle.journal.proofs.SlotLaws.{slot_taken_other, slot_taken-fault}
+use Rattle.journal.proofs.RunLaws.{run_none, run-done, run_step, OnTheWay, stepped-moved, stepped_within, stepped-way}
 
 pub replay-fault : (gap : Bool) (n : ℕ) (slots : List (List ℕ)) → replay gap (fault n) slots ≡ fault n
 unfolding replay

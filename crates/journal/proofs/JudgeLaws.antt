@@ -11,7 +11,7 @@ use Rattle.journal.specs.Slots.{slot_count, slots_of, replayed, written_slots}
 use Rattle.journal.specs.Recovery.{Recovered, is_length}
 use Rattle.journal.specs.Follows.{shown, Follows}
 use Rattle.journal.specs.Reader.{State}
-use Rattle.journal.specs.Writing.{Placed, refuse_placing, placing, judged, judging}
+use Rattle.journal.specs.Writing.{refuse_placing, placing, judged, judging}
 use Rattle.journal.proofs.ReplayLaws.{follow-fault}
 use Rattle.journal.proofs.EndLaws.{Ends}
 

@@ -1,9 +1,9 @@
 -- An address as the code reads it from a slot. Assumes nothing.
-use Prim.Native.Nat.{ℕ, ◌+◌, ◌*◌, ◌-◌, ◌%◌, ◌^◌, ◌≤◌, ◌<◌}
-use mathlib.Core.Path.{◌≡◌, refl, sym, ap, ◌∙◌}
+use Prim.Native.Nat.{ℕ, ◌+◌, ◌*◌, ◌%◌, ◌^◌, ◌<◌}
+use mathlib.Core.Path.{◌≡◌, sym, ap, ◌∙◌}
 use mathlib.Core.List.{List}
 use native.Mathlib.Omega.{arith}
-use lib.ListN.{length, take, drop, get_or, length-take}
+use lib.ListN.{take, drop, get_or, length-take}
 use Rattle.octets.specs.Octets.{AreOctets, value}
 use Rattle.octets.proofs.OctetLaws.{take-octets, drop-octets, value-mod}
 use Rattle.block.specs.Block.{address_bytes, addresses_at, count_in, addresses_in}

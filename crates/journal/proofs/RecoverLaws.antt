@@ -1,5 +1,5 @@
 -- Recovery, exit by exit. Assumes nothing.
-use Prim.Native.Nat.{ℕ, zero, suc, ◌+◌, ◌*◌, ◌-◌, ◌/◌, ◌%◌, ◌≤◌, ◌<◌}
+use Prim.Native.Nat.{ℕ, zero, suc, ◌*◌, ◌-◌, ◌/◌, ◌%◌, ◌≤◌, ◌<◌}
 use mathlib.Core.Path.{◌≡◌, refl, sym, ap, ap₂, ◌∙◌}
 use mathlib.Core.Bool.{Bool, true, false, not, ◌&&◌}
 use mathlib.Core.List.{List, ◌++◌}
@@ -11,7 +11,7 @@ use lib.Seq.{length-take-le}
 use Rattle.address.specs.Choice.{if◌then◌else◌}
 use Rattle.block.specs.Block.{slot_bytes}
 use Rattle.journal.specs.Limits.{most_slots, most_nodes}
-use Rattle.journal.specs.Replay.{Replay, known, fault}
+use Rattle.journal.specs.Replay.{Replay}
 use Rattle.journal.specs.Slots.{slot_count, replayed}
 use Rattle.journal.specs.Recovery.{Recovered, is_length, unfit, RecoverEffect, refuse_recovery, restored, recovering}
 use Rattle.journal.specs.Follows.{shown}

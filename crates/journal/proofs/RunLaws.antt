@@ -1,17 +1,17 @@
 -- The slots taken one after the other, state by state: what a turn of a loop keeps. Assumes nothing.
 use Prim.Native.Nat.{ℕ, zero, suc, ◌+◌, ◌-◌, ◌≤◌, ◌<◌}
-use mathlib.Core.Path.{◌≡◌, refl, sym, ap, ◌∙◌, subst}
+use mathlib.Core.Path.{◌≡◌, refl, sym, ap, ◌∙◌}
 use mathlib.Core.Bool.{Bool, true, false}
-use mathlib.Core.List.{List, ◌++◌}
+use mathlib.Core.List.{List}
 use native.Mathlib.Omega.{arith}
 use borrow.Author.Tests.{leb-false}
 use lib.Dec.{leb, ltb}
-use lib.ListN.{length, take, drop, replicate, length-append, length-drop, length-replicate}
+use lib.ListN.{length, take, drop, length-append, length-drop, length-replicate}
 use lib.Seq.{length-take-le}
 use Rattle.journal.specs.Limits.{most_nodes}
 use Rattle.journal.specs.Replay.{Replay, known, fault}
 use Rattle.journal.specs.Slots.{slot_count, slot_taken}
-use Rattle.journal.specs.Reader.{Progress, State, slot_at, written_after, moved, took, step, run, first, from}
+use Rattle.journal.specs.Reader.{State, slot_at, written_after, moved, took, step, run, from}
 use Rattle.journal.proofs.CountLaws.{Within, within-slot_taken}
 use Rattle.journal.proofs.StepLaws.{step-took}
 

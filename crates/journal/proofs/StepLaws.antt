@@ -1,16 +1,15 @@
 -- One slot taken, exit by exit. Assumes nothing.
-use Prim.Native.Nat.{ℕ, zero, suc, ◌+◌, ◌*◌, ◌-◌, ◌≤◌, ◌<◌}
+use Prim.Native.Nat.{ℕ, zero, suc, ◌+◌, ◌≤◌, ◌<◌}
 use mathlib.Core.Path.{◌≡◌, refl, sym, ap, ap₂, ◌∙◌}
-use mathlib.Core.Bool.{Bool, true, false}
+use mathlib.Core.Bool.{true, false}
 use mathlib.Core.List.{List, ◌++◌}
 use native.Mathlib.Omega.{arith}
 use borrow.Author.Tests.{le-leb, lt-leb, lt-ltb, le-ltb}
 use lib.Dec.{leb, ltb}
 use lib.ListN.{length, take, drop, replicate, take-append-drop}
 use lib.Seq.{length-take-le}
-use Rattle.block.specs.Block.{all_are}
 use Rattle.journal.specs.Limits.{most_nodes}
-use Rattle.journal.specs.Replay.{Replay, known, fault}
+use Rattle.journal.specs.Replay.{Replay, known}
 use Rattle.journal.specs.Slots.{slot_count, is_erased, not_erased, slot_taken}
 use Rattle.journal.specs.Recovery.{Recovered}
 use Rattle.journal.specs.Follows.{shown, Follows}

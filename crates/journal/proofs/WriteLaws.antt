@@ -1,18 +1,18 @@
 -- The writer, exit by exit: it stores a block only where its answer names a slot of the journal. Assumes nothing.
-use Prim.Native.Nat.{ℕ, zero, suc, ◌+◌, ◌*◌, ◌-◌, ◌≤◌, ◌<◌}
-use mathlib.Core.Path.{◌≡◌, refl, sym, ap, ◌∙◌}
+use Prim.Native.Nat.{ℕ, ◌*◌, ◌<◌}
+use mathlib.Core.Path.{◌≡◌, refl, sym, ap}
 use mathlib.Core.Bool.{Bool, true, false, not, ◌&&◌}
 use mathlib.Core.List.{List, ◌++◌}
 use native.Mathlib.Omega.{arith}
 use borrow.Author.Tests.{leb-false, eq-eqb, ne_eqb}
 use borrow.Rule.Slice.PartMut.{put_mid}
-use lib.Dec.{leb, eqb}
-use lib.ListN.{length, take, drop, length-take, length-drop}
+use lib.Dec.{leb}
+use lib.ListN.{length, take, drop, length-drop}
 use lib.Seq.{drop-drop, length-take-le}
 use Rattle.address.specs.Choice.{if◌then◌else◌}
 use Rattle.block.specs.Block.{slot_bytes, is_count, block, block_put}
 use Rattle.journal.specs.Replay.{Replay, known, fault, follow, bare}
-use Rattle.journal.specs.Slots.{slot_count, slots_of, replayed, replay, written_slots}
+use Rattle.journal.specs.Slots.{slot_count, slots_of, replayed, written_slots}
 use Rattle.journal.specs.Recovery.{is_length}
 use Rattle.journal.specs.Writing.{Placed, BlockEffect, refuse_placing, placing, judged, judging, with_slot, stored, writing}
 use Rattle.journal.proofs.CountLaws.{Within, within-follow, within-replay}

@@ -5,7 +5,7 @@ use Rattle.address.specs.Choice.{if◌then◌else◌}
 use Rattle.block.specs.Block.{slot_bytes}
 use Rattle.journal.specs.Limits.{most_slots, most_nodes}
 use Rattle.journal.specs.Replay.{Replay, known, fault}
-use Rattle.journal.specs.Slots.{slot_count, replayed}
+use Rattle.journal.specs.Slots.{replayed}
 pub use Rattle.journal.specs.declared.Recovered.{Recovered}
 
 -- "1 to 128 slots of 512 bytes"

@@ -1,6 +1,7 @@
 // The journal of a hall: specs/Replay.antt and specs/Slots.antt say what its slots come to, specs/Recovery.antt and specs/Writing.antt what recovery
 // and the writer answer.
 #![tactic(auto)]
+
 ghost use Rattle.std.specs.Prelude.{◌≡◌, true, false, ◌∷◌, [], ◌++◌, ◌≤◌, ◌<◌, ◌+◌, ◌-◌, min, length, take, drop, replicate};
 ghost use Rattle.address.specs.declared.Kind.TheVariants.{Router, Host};
 ghost use Rattle.node.specs.Node.{fresh};
