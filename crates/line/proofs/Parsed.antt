@@ -1,7 +1,7 @@
 -- What an input asks for, test by test, in terms of the places that the reader finds: `middle` behind the first digits and `last` behind the
 -- second. Assumes nothing.
 use mathlib.Core.Path.{◌≡◌, refl, sym, ap, ◌∙◌}
-use mathlib.Core.Bool.{Bool, true, false, ◌||◌, and_false}
+use mathlib.Core.Bool.{Bool, true, false, ◌||◌, and-false}
 use mathlib.Core.List.{List, [], ◌∷◌}
 use Prim.Native.Nat.{ℕ, suc, ◌+◌, ◌%◌, ◌^◌, ◌≤◌, ◌<◌}
 use native.Mathlib.Nat.{mod-eq_of_lt}
@@ -97,7 +97,7 @@ module _ (input : List ℕ) where
 
   parsed-second : are_address (digits_of (after_space (after_digits input))) ≡ false → parsed input ≡ unreadable
   unfolding parsed
-  parsed-second e = rw (e, and_false)
+  parsed-second e = rw (e, and-false)
 
   module _ {middle : ℕ} (m : middle ≡ length (digits_of input)) where
     front : after_digits input ≡ drop middle input
@@ -126,7 +126,7 @@ module _ (input : List ℕ) where
 
         parsed-end : (drop last input ≡ newline ∷ [] → ⊥) → parsed input ≡ unreadable
         unfolding parsed
-        parsed-end ne = rw (rest, same_ne (drop last input) (newline ∷ []) ne, and_false)
+        parsed-end ne = rw (rest, same_ne (drop last input) (newline ∷ []) ne, and-false)
 
         pub parsed-length : (length input ≡ last + 1 → ⊥) → last ≤ length input → parsed input ≡ unreadable
         parsed-length ne r = parsed-end (λ e. ne (omega (arith, ap length e, length-drop last input)))

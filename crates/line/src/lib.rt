@@ -1,5 +1,6 @@
 // The path program's work, from the octets of its input to those of its output: specs/Line.antt has both texts.
 #![tactic(auto)]
+
 mod read;
 mod write;
 
@@ -52,7 +53,8 @@ fn refuse(out: &mut [u8]) -> Written
 
 // Writes the hops and the addresses of the path between two addresses.
 fn report(first: u64, second: u64, out: &mut [u8]) -> Written
-    requires { (0 < first) × (0 < second) }
+    requires first_some { 0 < first }
+    requires second_some { 0 < second }
     ensures { ◌≡◌ {A = WriteEffect} (record { answer = result; buffer = out.new }) (if ltb (length out.old) (length (path_text (path first second))) then refuse_writing 10 out.old else write (path_text (path first second)) out.old) }
 {
     let mut words = [0u64; 126];
@@ -76,7 +78,8 @@ fn report(first: u64, second: u64, out: &mut [u8]) -> Written
 
 // Writes the program's whole output for an input to the front of the lent octets.
 pub fn answer(input: &[u8], out: &mut [u8]) -> Written
-    ensures { (result ≡ (answering input.now out.old).answer) × (out.new ≡ (answering input.now out.old).buffer) }
+    ensures answer { result ≡ (answering input.now out.old).answer }
+    ensures buffer { out.new ≡ (answering input.now out.old).buffer }
 {
     let ends = read::read_line(input);
     if ends.first == 0 {

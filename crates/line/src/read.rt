@@ -32,7 +32,8 @@ impl Ends {
 
 // The digits from a place on, and the last 64 bits of the number that they give.
 fn digits_at(text: &[u8], from: usize) -> Run
-    ensures { (result.end ≡ from + length (digits_of (drop from text.now))) × (result.number ≡ value_of (digits_of (drop from text.now)) % 2 ^ 64) }
+    ensures end { result.end ≡ from + length (digits_of (drop from text.now)) }
+    ensures number { result.number ≡ value_of (digits_of (drop from text.now)) % 2 ^ 64 }
 {
     let mut number: u64 = 0;
     let mut end = from;
@@ -51,8 +52,10 @@ fn digits_at(text: &[u8], from: usize) -> Run
 }
 
 // The digits from a place on, and the address that they are, 0 where they are none.
+#[tactic(auto, using(crate::proofs::Parsed::address_in_other))]
 fn address_at(text: &[u8], from: usize) -> Run
-    ensures { (result.end ≡ from + length (digits_of (drop from text.now))) × (result.number ≡ (if are_address (digits_of (drop from text.now)) then value_of (digits_of (drop from text.now)) else 0)) }
+    ensures end { result.end ≡ from + length (digits_of (drop from text.now)) }
+    ensures number { result.number ≡ (if are_address (digits_of (drop from text.now)) then value_of (digits_of (drop from text.now)) else 0) }
 {
     let run = digits_at(text, from);
     let end = run.end;

@@ -8,7 +8,8 @@ use address::Address;
 // A text as it stands.
 pub(crate) fn put_text(text: &[u8], at: usize, out: &mut [u8]) -> usize
     requires { at + length text.now ≤ length out.old }
-    ensures { (result ≡ at + length text.now) × (out.new ≡ sets out.old at text.now) }
+    ensures place { result ≡ at + length text.now }
+    ensures stored { out.new ≡ sets out.old at text.now }
 {
     let mut i = 0;
     while i < text.len() {
@@ -20,8 +21,10 @@ pub(crate) fn put_text(text: &[u8], at: usize, out: &mut [u8]) -> usize
 
 // A number below 1000 in decimal digits.
 fn put_decimal(n: u32, at: usize, out: &mut [u8]) -> usize
-    requires { (n < 1000) × (at + length (decimal n) ≤ length out.old) }
-    ensures { (result ≡ at + length (decimal n)) × (out.new ≡ sets out.old at (decimal n)) }
+    requires below { n < 1000 }
+    requires room { at + length (decimal n) ≤ length out.old }
+    ensures place { result ≡ at + length (decimal n) }
+    ensures stored { out.new ≡ sets out.old at (decimal n) }
 {
     if n < 10 {
         out[at] = b'0' + n as u8;
@@ -53,8 +56,10 @@ pub(crate) fn hops_size(hops: u32) -> usize
 
 // The line of the hops, at the front.
 pub(crate) fn put_hops(hops: u32, out: &mut [u8]) -> usize
-    requires { (hops < 1000) × (length (hops_text ++ decimal hops ++ (newline ∷ [])) ≤ length out.old) }
-    ensures { (result ≡ length (hops_text ++ decimal hops ++ (newline ∷ []))) × (out.new ≡ sets out.old 0 (hops_text ++ decimal hops ++ (newline ∷ []))) }
+    requires below { hops < 1000 }
+    requires room { length (hops_text ++ decimal hops ++ (newline ∷ [])) ≤ length out.old }
+    ensures place { result ≡ length (hops_text ++ decimal hops ++ (newline ∷ [])) }
+    ensures stored { out.new ≡ sets out.old 0 (hops_text ++ decimal hops ++ (newline ∷ [])) }
 {
     let number = put_text(b"hops ", 0, out);
     let end = put_decimal(hops, number, out);
@@ -65,7 +70,8 @@ pub(crate) fn put_hops(hops: u32, out: &mut [u8]) -> usize
 // An address in binary digits, the last one first.
 fn put_address(address: u64, at: usize, out: &mut [u8]) -> usize
     requires { at + length (address_text address) ≤ length out.old }
-    ensures { (result ≡ at + length (address_text address)) × (out.new ≡ sets out.old at (address_text address)) }
+    ensures place { result ≡ at + length (address_text address) }
+    ensures stored { out.new ≡ sets out.old at (address_text address) }
 {
     let end = at + Address::of(address).bit_length() as usize;
     let mut rest = address;

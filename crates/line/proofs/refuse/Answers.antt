@@ -1,0 +1,16 @@
+-- The text is 11 octets long and goes to the front.
+use Rattle.std.proofs.Common.{ap₂, ◌∙◌, ℕ, List, length, arith, lt-ltb, le-ltb}
+use Rattle.octets.specs.Octets.{refuse_writing, wrote, write}
+use Rattle.line.specs.Line.{refused_text}
+use Rattle.line.proofs.Stores.{sets_front}
+use Rattle.line.proofs.refuse.Goals as goal
+
+pub returns-then-out-lt11 : goal.returns-then-out-lt11
+unfolding refuse_writing refused_text
+returns-then-out-lt11 c = rw (lt-ltb (length c.args.out.now) 11 c.if-out-lt11.true)
+
+pub returns : goal.returns
+unfolding write refused_text
+returns c =
+    rw (le-ltb (length c.args.out.now) 11 (omega arith))
+    (ap₂ (λ (n : ℕ) (l : List ℕ). record { answer = wrote n; buffer = l }) c.put_text-count.ensures.place (c.put_text-count.ensures.stored ∙ sets_front c.args.out.now refused_text (omega arith)))
