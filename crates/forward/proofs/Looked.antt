@@ -1,5 +1,6 @@
 -- What the search finds below a node: the bits looked at are those of the destination's next step, so they are at least one, they end at the
 -- place that the search answers, and the last of them is the child's last bit. Assumes nothing.
+use Rattle.std.specs.Prelude.{if◌then◌else◌}
 use mathlib.Core.Path.{◌≡◌, refl, sym, ap, ◌∙◌}
 use mathlib.Core.Bool.{true, false}
 use mathlib.Core.List.{List, [], ◌∷◌, ◌++◌}
@@ -9,7 +10,6 @@ use lib.Dec.{eqb}
 use lib.ListN.{length, drop, replicate, length-append}
 use Rattle.address.specs.declared.Kind.{Kind}
 use Rattle.address.specs.declared.Kind.TheVariants.{Router, Host}
-use Rattle.address.specs.Choice.{if◌then◌else◌}
 use Rattle.address.specs.Bits.{Bit, I, bits, number, digit}
 use Rattle.address.specs.Steps.{Step, child, steps, address_of, step_bits, last_of}
 use Rattle.address.specs.Address.{bit_length, is_host}

@@ -1,4 +1,5 @@
 -- What the next hop answers, one law for each exit of the code. Assumes nothing.
+use Rattle.std.specs.Prelude.{if◌then◌else◌}
 use mathlib.Core.Path.{◌≡◌, ◌∙◌}
 use mathlib.Core.Bool.{Bool, true, false, not}
 use Prim.Native.Nat.{ℕ, ◌<◌, ◌≤◌}
@@ -6,7 +7,6 @@ use borrow.Author.Tests.{eq-eqb, ne_eqb, lt-ltb, le-ltb}
 use mathlib.Core.List.{List, ◌++◌}
 use lib.Dec.{eqb, ltb, lit≤}
 use lib.ListN.{drop}
-use Rattle.address.specs.Choice.{if◌then◌else◌}
 use Rattle.address.specs.Bits.{Bit, bits, number}
 use Rattle.address.specs.Address.{bit_length, is_host, parent}
 use Rattle.search.specs.Search.{looked_at, is_prefix, kind_looked, index_looked}

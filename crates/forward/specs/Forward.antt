@@ -1,6 +1,5 @@
 -- The next hop from an address: "With a good record of address C and a destination D", rules 1 to 4.
-use Rattle.std.specs.Prelude.{ℕ, not, List, ◌++◌, drop, eqb, ltb}
-use Rattle.address.specs.Choice.{if◌then◌else◌}
+use Rattle.std.specs.Prelude.{ℕ, not, List, ◌++◌, drop, eqb, ltb, if◌then◌else◌}
 use Rattle.address.specs.Bits.{Bit, bits, number}
 use Rattle.address.specs.Address.{bit_length, is_host, parent}
 use Rattle.search.specs.Search.{looked_at, is_prefix, kind_looked, index_looked}

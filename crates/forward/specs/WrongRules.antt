@@ -1,7 +1,6 @@
 -- A wrong rule for the next hop that gives a wrong refusal, which demand 1 must exclude. Those that pass a packet wrongly are excluded by demand 3:
 -- crates/tree/specs/WrongHops.antt has them.
-use Rattle.std.specs.Prelude.{ℕ, eqb}
-use Rattle.address.specs.Choice.{if◌then◌else◌}
+use Rattle.std.specs.Prelude.{ℕ, eqb, if◌then◌else◌}
 use Rattle.node.specs.declared.Node.{Node}
 use Rattle.forward.specs.Forward.{HopAnswer, refused_hop, next_hop}
 

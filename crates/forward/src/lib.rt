@@ -1,7 +1,7 @@
 // The next hop from an address: specs/Forward.antt has the rules, their order and the refusals.
 #![tactic(auto)]
-ghost use Rattle.std.specs.Prelude.{◌≡◌, true, false, ◌%◌, eqb, drop};
-ghost use Rattle.address.specs.Choice.{if◌then◌else◌};
+
+ghost use Rattle.std.specs.Prelude.{◌≡◌, true, false, ◌%◌, eqb, drop, if◌then◌else◌};
 ghost use Rattle.address.specs.Bits.{bits};
 ghost use Rattle.address.specs.Address.{bit_length, is_host};
 ghost use Rattle.address.specs.Numbers.{IsAddress};
@@ -36,11 +36,11 @@ fn kind_of(child: Address) -> Kind
 
 // Rule 4: the next child on the way to an address of which the node's is a proper prefix.
 fn toward(node: Node, destination: Address) -> Hop
-    requires address { IsAddress node.address.number }
-    requires address_2 { IsAddress destination.number }
-    requires number_value { is_host node.address.number ≡ false }
-    requires number_value_2 { is_prefix (bits node.address.number) (bits destination.number) ≡ true }
-    requires fact { destination.number ≡ node.address.number → ⊥ }
+    requires node_address { IsAddress node.address.number }
+    requires destination_address { IsAddress destination.number }
+    requires no_host { is_host node.address.number ≡ false }
+    requires prefix { is_prefix (bits node.address.number) (bits destination.number) ≡ true }
+    requires other { destination.number ≡ node.address.number → ⊥ }
     ensures { hop_answer result ≡ toward node (looked_at (drop (bit_length node.address.number) (bits destination.number))) }
 {
     let length = node.address.bit_length();
