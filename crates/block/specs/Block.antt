@@ -1,7 +1,6 @@
 -- A block, and a slot that holds one. "A block: 0x50; a count n of 1 to 63; n addresses of 8 octets, high octet first, in the order given; zeros up
 -- to byte 508; in bytes 509 and 510, high first, a CRC-16 of bytes 0 to 508 ..; 0xA5 in byte 511."
-use Rattle.std.specs.Prelude.{ℕ, zero, suc, ◌+◌, ◌*◌, ◌-◌, Bool, true, ◌&&◌, List, [], ◌∷◌, ◌++◌, length, take, drop, get_or, replicate, eqb, leb}
-use Rattle.address.specs.Choice.{if◌then◌else◌}
+use Rattle.std.specs.Prelude.{ℕ, zero, suc, ◌+◌, ◌*◌, ◌-◌, Bool, true, ◌&&◌, List, [], ◌∷◌, ◌++◌, length, take, drop, get_or, replicate, eqb, leb, if◌then◌else◌}
 use Rattle.octets.specs.Octets.{octets, value}
 use Rattle.crc.specs.Crc.{crc}
 

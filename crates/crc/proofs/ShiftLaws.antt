@@ -1,5 +1,6 @@
 -- The laws of the register: it stays within 16 bits, it is linear in what it holds and what goes in, and the bits of a number go in by parts.
 -- Assumes nothing.
+use Rattle.std.specs.Prelude.{if◌then◌else◌}
 use mathlib.Core.Path.{◌≡◌, refl, sym, ap, ap₂, ◌∙◌}
 use mathlib.Core.Bool.{Bool, true, false}
 use mathlib.Core.List.{List, [], ◌∷◌, ◌++◌}
@@ -8,7 +9,6 @@ use native.Mathlib.Nat.{mod-lt}
 use native.Mathlib.Omega.{arith}
 use lib.Dec.{eqb, lit<}
 use lib.Bits.{bit_xor, xor_zero_r, xor_lt, xor_shr, xor_mod}
-use Rattle.address.specs.Choice.{if◌then◌else◌}
 use Rattle.crc.specs.Crc.{polynomial, start, bit, moved_up, shift_in, shift_bits, shift_octet, crc_from, crc}
 use Rattle.crc.specs.Checks.{CrcFits}
 use Rattle.crc.proofs.XorLaws.{at_bits, xor_exchange, xor_times}

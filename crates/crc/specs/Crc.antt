@@ -1,8 +1,7 @@
 -- The check of a block: "a CRC-16 of bytes 0 to 508 (polynomial 0x1021, start 0xFFFF, high bit first, nothing reversed or added at the end)". It
 -- is defined here bit by bit, from the polynomial, for any octets; specs/Checks.antt has the table of the code, and that four bits at once go by it.
-use Rattle.std.specs.Prelude.{ℕ, zero, suc, ◌*◌, ◌/◌, ◌%◌, ◌^◌, List, [], ◌∷◌, eqb}
+use Rattle.std.specs.Prelude.{ℕ, zero, suc, ◌*◌, ◌/◌, ◌%◌, ◌^◌, List, [], ◌∷◌, eqb, if◌then◌else◌}
 use Rattle.std.specs.Int.Bits.{bit_xor}
-use Rattle.address.specs.Choice.{if◌then◌else◌}
 
 -- "polynomial 0x1021": x ^ 12 + x ^ 5 + 1, and x ^ 16, which is the bit that leaves the register
 abbrev pub polynomial : ℕ

@@ -1,7 +1,6 @@
 -- Wrong checks, each the right one with one part exchanged, and the statement that the known value of "123456789" excludes them all.
-use Rattle.std.specs.Prelude.{ℕ, zero, suc, ◌/◌, ◌%◌, ◌≡◌, List, [], ◌∷◌, eqb}
+use Rattle.std.specs.Prelude.{ℕ, zero, suc, ◌/◌, ◌%◌, ◌≡◌, List, [], ◌∷◌, eqb, if◌then◌else◌}
 use Rattle.std.specs.Int.Bits.{bit_xor}
-use Rattle.address.specs.Choice.{if◌then◌else◌}
 use Rattle.crc.specs.Crc.{start, bit, moved_up, shift_in, shift_bits, shift_octet, crc_from, crc}
 use Rattle.crc.specs.Known.{nine}
 

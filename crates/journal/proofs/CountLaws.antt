@@ -1,4 +1,5 @@
 -- What is replayed stays within the nodes that there may be, and a fault has a number. Assumes nothing.
+use Rattle.std.specs.Prelude.{if◌then◌else◌}
 use Prim.Native.Nat.{ℕ, ◌≤◌, ◌<◌}
 use mathlib.Core.Path.{◌≡◌, refl}
 use mathlib.Core.Bool.{Bool, true, false, not}
@@ -7,7 +8,6 @@ use native.Mathlib.Omega.{arith}
 use borrow.Author.Tests.{leb-false}
 use lib.Dec.{leb}
 use lib.ListN.{length, length-append}
-use Rattle.address.specs.Choice.{if◌then◌else◌}
 use Rattle.block.specs.Block.{is_block, addresses_in}
 use Rattle.journal.specs.Limits.{most_nodes}
 use Rattle.journal.specs.Replay.{Replay, known, fault, is_next, taken, next, follow}

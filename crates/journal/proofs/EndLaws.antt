@@ -1,4 +1,5 @@
 -- The slots taken one after the other come to what is replayed: one induction over the slots that are left. Assumes nothing.
+use Rattle.std.specs.Prelude.{if◌then◌else◌}
 use Prim.Native.Nat.{ℕ, zero, suc, ◌+◌, ◌*◌, ◌≤◌, ◌<◌}
 use mathlib.Core.Path.{◌≡◌, refl, sym, ap, ap₂, ◌∙◌, subst}
 use mathlib.Core.Bool.{Bool, true, false}
@@ -8,7 +9,6 @@ use borrow.Author.Tests.{lt-leb, lt-ltb, le-ltb, ltb-false}
 use lib.Dec.{leb, ltb}
 use lib.ListN.{length, take, drop, set, replicate, length-set}
 use lib.Seq.{take-append_seam, drop-drop, take-suc-set}
-use Rattle.address.specs.Choice.{if◌then◌else◌}
 use Rattle.address.specs.Bits.{root}
 use Rattle.block.specs.Block.{slot_bytes}
 use Rattle.journal.specs.Limits.{most_nodes}

@@ -1,4 +1,5 @@
 -- A slot that is taken, test by test. Assumes nothing.
+use Rattle.std.specs.Prelude.{if◌then◌else◌}
 use Prim.Native.Nat.{ℕ}
 use mathlib.Core.Path.{◌≡◌, refl}
 use mathlib.Core.Bool.{Bool, true, false}
@@ -6,7 +7,6 @@ use mathlib.Core.List.{List}
 use lib.ListN.{get_or}
 use borrow.Author.Tests.{eq-eqb, ne_eqb}
 use Rattle.block.specs.Block.{is_block, addresses_in}
-use Rattle.address.specs.Choice.{if◌then◌else◌}
 use Rattle.journal.specs.Replay.{Replay, known, fault, follow}
 use Rattle.journal.proofs.ReplayLaws.{follow-fault}
 use Rattle.journal.specs.Slots.{is_erased, ends_erased, spoilt, entered, not_erased, slot_taken}

@@ -1,8 +1,7 @@
 -- One slot at a time, with a place counter: what is handed from slot to slot. From the first slot on, asked until it is done, and with what recovery
 -- checks before it (`unfit`) and clears behind it (`finished`), this is recovery; the crate reader says so of a reader that keeps hold of the
 -- journal. What is answered from any other state is left open by the request, and here fixed.
-use Rattle.std.specs.Prelude.{ℕ, zero, suc, ◌+◌, ◌*◌, ◌-◌, Bool, true, false, ◌||◌, List, ◌++◌, length, take, drop, replicate, set, eqb, leb, ltb}
-use Rattle.address.specs.Choice.{if◌then◌else◌}
+use Rattle.std.specs.Prelude.{ℕ, zero, suc, ◌+◌, ◌*◌, ◌-◌, Bool, true, false, ◌||◌, List, ◌++◌, length, take, drop, replicate, set, eqb, leb, ltb, if◌then◌else◌}
 use Rattle.address.specs.Bits.{root}
 use Rattle.block.specs.Block.{slot_bytes}
 use Rattle.journal.specs.Limits.{most_nodes}

@@ -1,6 +1,5 @@
 -- A node's record from the words that recovery leaves: its address, and for each kind the children among the words.
-use Rattle.std.specs.Prelude.{ℕ, suc, min, Bool, true, false, not, ◌&&◌, List, [], ◌∷◌, eqb}
-use Rattle.address.specs.Choice.{if◌then◌else◌}
+use Rattle.std.specs.Prelude.{ℕ, suc, min, Bool, true, false, not, ◌&&◌, List, [], ◌∷◌, eqb, if◌then◌else◌}
 use Rattle.address.specs.Address.{is_host, parent}
 use Rattle.address.specs.declared.Kind.{Kind}
 use Rattle.address.specs.declared.Kind.TheVariants.{Router, Host}

@@ -1,7 +1,6 @@
 -- Recovery: "Recovery first checks the length (12), then that at least [4,096] words are lent (10), then takes slots in order .. Success returns the
 -- number of nodes and leaves root and addresses in order, then zeros to the list's end. Recovery's 14 and 17 leave the list all zeros".
-use Rattle.std.specs.Prelude.{ℕ, ◌*◌, ◌-◌, ◌%◌, Bool, not, ◌&&◌, List, ◌++◌, length, replicate, eqb, leb, ltb}
-use Rattle.address.specs.Choice.{if◌then◌else◌}
+use Rattle.std.specs.Prelude.{ℕ, ◌*◌, ◌-◌, ◌%◌, Bool, not, ◌&&◌, List, ◌++◌, length, replicate, eqb, leb, ltb, if◌then◌else◌}
 use Rattle.block.specs.Block.{slot_bytes}
 use Rattle.journal.specs.Limits.{most_slots, most_nodes}
 use Rattle.journal.specs.Replay.{Replay, known, fault}

@@ -1,7 +1,6 @@
 -- The addresses of a journal, taken one after the other. "whose addresses each are the next child of a node already known, starting from a bare
 -- root; otherwise 17"; "a [4,097th] node, the root counted, is 14, but 17 if it is no next child".
-use Rattle.std.specs.Prelude.{ℕ, ◌-◌, ◌/◌, ◌%◌, Bool, false, not, ◌&&◌, ◌||◌, List, [], ◌∷◌, ◌++◌, length, eqb, leb}
-use Rattle.address.specs.Choice.{if◌then◌else◌}
+use Rattle.std.specs.Prelude.{ℕ, ◌-◌, ◌/◌, ◌%◌, Bool, false, not, ◌&&◌, ◌||◌, List, [], ◌∷◌, ◌++◌, length, eqb, leb, if◌then◌else◌}
 use Rattle.address.specs.Bits.{root}
 use Rattle.journal.specs.Limits.{most_nodes}
 

@@ -1,7 +1,6 @@
 -- The slots of a journal, one after the other: "then takes slots in order, the first fault deciding, in a slot its place and form before its
 -- addresses".
-use Rattle.std.specs.Prelude.{ℕ, zero, suc, ◌/◌, Bool, true, false, List, [], ◌∷◌, length, take, drop, get_or, eqb}
-use Rattle.address.specs.Choice.{if◌then◌else◌}
+use Rattle.std.specs.Prelude.{ℕ, zero, suc, ◌/◌, Bool, true, false, List, [], ◌∷◌, length, take, drop, get_or, eqb, if◌then◌else◌}
 use Rattle.block.specs.Block.{slot_bytes, all_are, is_block, addresses_in}
 use Rattle.journal.specs.Replay.{Replay, known, fault, follow, bare}
 

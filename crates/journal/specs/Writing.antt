@@ -1,7 +1,6 @@
 -- The writer of a block. "The writer refuses in this order: 12 if the journal's length is wrong or n is outside 1 to 63; 14 or 17 exactly if
 -- recovery gives it for the journal, or else for its written slots and this block after them, even a 129th; 10 if no slot is erased."
-use Rattle.std.specs.Prelude.{ℕ, ◌+◌, ◌*◌, not, ◌&&◌, List, ◌++◌, length, take, drop, eqb, leb}
-use Rattle.address.specs.Choice.{if◌then◌else◌}
+use Rattle.std.specs.Prelude.{ℕ, ◌+◌, ◌*◌, not, ◌&&◌, List, ◌++◌, length, take, drop, eqb, leb, if◌then◌else◌}
 use Rattle.journal.specs.Replay.{Replay, known, fault, follow}
 use Rattle.block.specs.Block.{slot_bytes, is_count, block}
 use Rattle.journal.specs.Slots.{slot_count, slots_of, replayed, written_slots}
