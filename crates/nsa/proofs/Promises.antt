@@ -4,7 +4,7 @@ use mathlib.Core.Path.{◌≡◌, sym, ap, ap₂, ◌∙◌}
 use mathlib.Core.List.{List}
 use Prim.Native.Nat.{ℕ, ◌^◌, ◌<◌}
 use contract.Lifetimes.{Lfts}
-use denote.Ref.{Bor}
+use Rattle.std.specs.Borrow.{Bor, MutBor}
 use Rattle.octets.specs.Octets.{AreOctets}
 use Rattle.address.specs.declared.Address.{Address}
 use Rattle.octets.specs.declared.Written.{Written}
@@ -17,11 +17,11 @@ use Rattle.nsa.proofs.read.Reads as read-reads
 abbrev Slice : Type 0
 Slice = Bor (List ℕ)
 
-pub write-asks-nothing : (κs : Lfts 1) (payload : ℕ) (source destination : Address) (out : Slice)
+pub write-asks-nothing : (κs : Lfts 1) (payload : ℕ) (source destination : Address) (out : MutBor (List ℕ))
     → write-reads.Asked κs (payload, (source, (destination, (out, tt))))
 write-asks-nothing κs payload source destination out = tt
 
-pub write_promise : (κs : Lfts 1) (payload : ℕ) (source destination : Address) (out last : Slice) (r : Written)
+pub write_promise : (κs : Lfts 1) (payload : ℕ) (source destination : Address) (out last : MutBor (List ℕ)) (r : Written)
     → write-reads.Learnt κs (payload, (source, (destination, (out, tt)))) r (payload, (source, (destination, (last, tt))))
     → (record { answer = r; buffer = last.now } ≡ writing payload source.number destination.number out.now)
     × (source.number < 2 ^ 64) × (destination.number < 2 ^ 64)

@@ -1,6 +1,7 @@
 // The older fields of NSA: payload length, source and destination in a row. What the octets are, in which order they are checked and what each
 // fault is numbered, stands in specs/Fields.antt.
 #![tactic(auto)]
+
 ghost use Rattle.std.specs.Prelude.{◌≡◌, ◌∷◌, ◌+◌, ◌-◌, ◌^◌, ◌≤◌, ◌<◌, length};
 ghost use Rattle.octets.specs.Octets.{octets, AreOctets};
 ghost use Rattle.nsa.specs.Fields.{length_field, long_octets, address_field, writing, refused_field, number_reading, length_reading, counted_reading, address_reading, fields_answer, reading};
@@ -149,6 +150,7 @@ fn put_address(address: u64, out: &mut [u8])
 
 // Writes the three fields to the front of the lent buffer. That the addresses have at most 64 bits, which demand 2 asks, is promised beside the
 // answer.
+#[tactic(auto, unfolding(crate::specs::Fields::writing, octets::specs::Octets::refuse_writing))]
 pub fn write(payload: u64, source: Address, destination: Address, out: &mut [u8]) -> Written
     ensures { (result ≡ (writing payload source.number destination.number out.old).answer) × (out.new ≡ (writing payload source.number destination.number out.old).buffer) × (source.number < 2 ^ 64) × (destination.number < 2 ^ 64) }
 {
@@ -245,6 +247,7 @@ fn read_length(field: &[u8]) -> Field
 }
 
 // Reads an address that has its length in its second octet.
+#[tactic(auto, unfolding(crate::specs::Fields::counted_reading))]
 fn read_counted(field: &[u8]) -> Field
     ensures { result ≡ counted_reading field.now }
 {
