@@ -1,5 +1,6 @@
 -- The fields that are written are forms of their numbers, and the shortest. A form's first octet, and its second after 255, tell how many octets
 -- it has and which number (`length-form-end`, `address-form-end`), and how many octets a number needs follows from what they hold. Assumes nothing.
+use Rattle.std.specs.Prelude.{if◌then◌else◌}
 use mathlib.Core.Path.{◌≡◌, refl, sym, ap, ap₂, ◌∙◌, subst}
 use mathlib.Core.Logic.{◌⊎◌, inl, inr}
 use mathlib.Core.List.{List, ◌∷◌, ◌++◌}
@@ -11,7 +12,6 @@ use borrow.Author.Tests.{lt-ltb}
 use mathlib.Core.Bool.{true}
 use lib.Dec.{eqb, ltb, lit<}
 use lib.ListN.{length, drop, get_or}
-use Rattle.address.specs.Choice.{if◌then◌else◌}
 use Rattle.address.specs.Bits.{longest}
 use Rattle.octets.specs.Octets.{octets, value, AreOctets}
 use Rattle.octets.proofs.OctetLaws.{length-octets, octets-octets, value-octets_of_lt, octets-value, value-lt}

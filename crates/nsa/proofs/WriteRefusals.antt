@@ -1,5 +1,6 @@
 -- Each refusal of writing stands where the document puts it: at every condition of the order the definition, by the checks that have passed on the
 -- way, gives that condition's number. Assumes nothing.
+use Rattle.std.specs.Prelude.{if◌then◌else◌}
 use mathlib.Core.Path.{◌≡◌, refl}
 use mathlib.Core.Bool.{Bool, true, false}
 use mathlib.Core.Logic.{◌⊎◌, inl, inr}
@@ -9,7 +10,6 @@ use native.Mathlib.Decide.{ℕ_discrete, dec_lt}
 use native.Mathlib.Omega.{arith}
 use lib.Dec.{eqb, ltb}
 use lib.ListN.{length}
-use Rattle.address.specs.Choice.{if◌then◌else◌}
 use Rattle.address.specs.Order.{First}
 use Rattle.address.proofs.OrderLaws.{given-exactly}
 use Rattle.address.proofs.Decided.{decided, one_of}

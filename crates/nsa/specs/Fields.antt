@@ -1,7 +1,6 @@
 -- The older fields (document 02, Seven): "Source document 004, section 7, gives variable fields; we need writer and reader for three in a row:
 -- payload length, source, destination." "Numbers stand high octet first."
-use Rattle.std.specs.Prelude.{ℕ, ◌+◌, ◌*◌, ◌-◌, ◌^◌, not, List, [], ◌∷◌, ◌++◌, length, take, drop, get_or, eqb, ltb}
-use Rattle.address.specs.Choice.{if◌then◌else◌}
+use Rattle.std.specs.Prelude.{ℕ, ◌+◌, ◌*◌, ◌-◌, ◌^◌, not, List, [], ◌∷◌, ◌++◌, length, take, drop, get_or, eqb, ltb, if◌then◌else◌}
 use Rattle.octets.specs.Octets.{octets, value, WriteEffect, refuse_writing, write}
 pub use Rattle.nsa.specs.declared.Field.{Field}
 pub use Rattle.nsa.specs.declared.Reading.{Reading}

@@ -1,8 +1,7 @@
 -- Demand 1 for the older fields: each refusal is given exactly when document 02 (Seven) says, in its order. The conditions are the document's words
 -- about numbers, buffers and octets, apart from the tests that `writing` and `reading` run. The statements are of any writer and any reader, so that
 -- a wrong one can be refuted by them.
-use Rattle.std.specs.Prelude.{◌≡◌, ◌⊎◌, List, ◌++◌, ℕ, ◌+◌, ◌≤◌, ◌<◌, eqb, ltb, length, take, drop, get_or}
-use Rattle.address.specs.Choice.{if◌then◌else◌}
+use Rattle.std.specs.Prelude.{◌≡◌, ◌⊎◌, List, ◌++◌, ℕ, ◌+◌, ◌≤◌, ◌<◌, eqb, ltb, length, take, drop, get_or, if◌then◌else◌}
 use Rattle.address.specs.Order.{Order, done, ◌when◌otherwise◌, ◌then◌, GivenExactly}
 use Rattle.octets.specs.Octets.{AreOctets, value}
 use Rattle.octets.specs.Lent.{RefusalLeaves, SuccessWrites}

@@ -1,6 +1,5 @@
 -- Wrong readers, which the statement of demand 2 or of demand 1 must exclude.
-use Rattle.std.specs.Prelude.{◌&&◌, ◌+◌, ◌-◌, eqb, ltb, leb, length, take, drop, get_or}
-use Rattle.address.specs.Choice.{if◌then◌else◌}
+use Rattle.std.specs.Prelude.{◌&&◌, ◌+◌, ◌-◌, eqb, ltb, leb, length, take, drop, get_or, if◌then◌else◌}
 use Rattle.octets.specs.Octets.{value}
 use Rattle.nsa.specs.Fields.{found, refused_fields, length_reading, reading}
 use Rattle.nsa.specs.RoundTrip.{FieldsReader}

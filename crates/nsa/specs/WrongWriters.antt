@@ -1,6 +1,5 @@
 -- Wrong writers, which the statement of demand 2 or of demand 1 must exclude.
-use Rattle.std.specs.Prelude.{◌&&◌, ◌∷◌, ◌++◌, ◌+◌, eqb, ltb, leb, length, take, set}
-use Rattle.address.specs.Choice.{if◌then◌else◌}
+use Rattle.std.specs.Prelude.{◌&&◌, ◌∷◌, ◌++◌, ◌+◌, eqb, ltb, leb, length, take, set, if◌then◌else◌}
 use Rattle.octets.specs.Octets.{octets, wrote, refuse_writing, write}
 use Rattle.nsa.specs.Fields.{length_field, address_field, fields, longest_payload, writing}
 use Rattle.nsa.specs.RoundTrip.{FieldsWriter}

@@ -1,9 +1,9 @@
 -- `nsa::write` meets its contract: each return is one case of `writing`; on success the three parts that are put are the fields. Assumes nothing.
-use Rattle.std.proofs.Common.{◌≡◌, sym, ap, ap₂, ◌∙◌, ℕ, ◌+◌, ◌-◌, ◌^◌, ◌<◌, List, length, arith}
+use Rattle.std.proofs.Common.{◌≡◌, sym, ap, ap₂, ◌∙◌, ℕ, ◌+◌, ◌-◌, List, length, arith}
 use borrow.Rule.Slice.PartMut.{put_mid}
 use Rattle.octets.specs.Octets.{WriteEffect, refuse_writing, write, wrote}
 use Rattle.nsa.specs.Fields.{length_field, address_field, fields}
-use Rattle.nsa.proofs.Writing.{length-length_field, length-address_field, length_fields, put_three, writing-long, writing-zero-source, writing-zero-destination, writing-short, writing-done}
+use Rattle.nsa.proofs.Writing.{length-length_field, length-address_field, length_fields, put_three, writing-short, writing-done}
 use Rattle.nsa.proofs.write.Goals as goal
 
 -- each of the three takes few octets
