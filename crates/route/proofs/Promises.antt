@@ -1,5 +1,5 @@
--- What `path` promises, by its contract as the code states it, is `listing`: the path of specs/Path.antt, and its hops. It asks nothing of its
--- caller.
+-- What `path` promises, by its contract as the code states it, is `listing`: the path of specs/Path.antt, and its hops; what `hops` promises is the
+-- hops of that path. Neither asks anything of its caller.
 use mathlib.Core.Path.{◌≡◌, ap₂}
 use mathlib.Core.List.{List}
 use Prim.Native.Nat.{ℕ}
@@ -7,8 +7,9 @@ use contract.Lifetimes.{Lfts}
 use Rattle.std.specs.Borrow.{MutBor}
 use Rattle.address.specs.declared.Address.{Address}
 use Rattle.route.specs.declared.Listed.{Listed}
-use Rattle.route.specs.Path.{listing}
+use Rattle.route.specs.Path.{path, hops, listing}
 use Rattle.route.proofs.path.Reads as path-reads
+use Rattle.route.proofs.hops.Reads as hops-reads
 
 pub path_promise : (κs : Lfts 1) (first second : Address) (words last : MutBor (List ℕ)) (r : Listed)
     → path-reads.Learnt κs (first, (second, (words, tt))) r (first, (second, (last, tt)))
@@ -17,3 +18,10 @@ path_promise κs first second words last r h = ap₂ (λ (l : Listed) (w : List 
 
 pub path-asks-nothing : (κs : Lfts 1) (first second : Address) (words : MutBor (List ℕ)) → path-reads.Asked κs (first, (second, (words, tt)))
 path-asks-nothing κs first second words = tt
+
+pub hops_promise : (first second : Address) (r : ℕ) → hops-reads.Learnt tt (first, (second, tt)) r (first, (second, tt))
+    → r ≡ hops (path first.number second.number)
+hops_promise first second r h = h
+
+pub hops-asks-nothing : (first second : Address) → hops-reads.Asked tt (first, (second, tt))
+hops-asks-nothing first second = tt

@@ -5,7 +5,7 @@ ghost use Rattle.std.specs.Prelude.{◌≡◌, reverse, ◌+◌, ◌*◌, ◌<�
 ghost use Rattle.address.specs.Bits.{bits, number};
 ghost use Rattle.address.specs.Steps.{steps};
 ghost use Rattle.address.specs.Address.{depth};
-ghost use Rattle.route.specs.Path.{turn, listing};
+ghost use Rattle.route.specs.Path.{turn, path, hops, listing};
 ghost use Rattle.route.specs.Counting.{upwards, steps_behind, marks};
 
 use address::Address;
@@ -66,6 +66,20 @@ fn count_ways(first: Address, second: Address) -> Ways
     let up = steps_behind(first, common);
     let down = steps_behind(second, common);
     Ways { up, down }
+}
+
+// The hops of the path from the first address to the second. Zero, which is no address, has no steps, so the path is the other's way.
+pub fn hops(first: Address, second: Address) -> u8
+    ensures { result ≡ hops (path first.number second.number) }
+{
+    if first.number == 0 {
+        return second.depth() as u8;
+    }
+    if second.number == 0 {
+        return first.depth() as u8;
+    }
+    let ways = count_ways(first, second);
+    (ways.up + ways.down) as u8
 }
 
 // Lists an address and its ancestors, upwards, as many as there are words.
