@@ -1,5 +1,6 @@
 -- The next hop from a packet beside `empty_goes`, the one of before document 02 (Eight): it stands where the octets are refused or have a payload behind them,
 -- and elsewhere with one octet more. Assumes nothing.
+use Rattle.std.specs.Prelude.{if◌then◌else◌}
 use mathlib.Core.Path.{◌≡◌, ap}
 use mathlib.Core.Bool.{true, false, not}
 use mathlib.Core.List.{List, [], ◌∷◌, ◌++◌}
@@ -7,7 +8,6 @@ use Prim.Native.Nat.{ℕ, ◌≤◌, ◌<◌}
 use borrow.Author.Tests.{eq-eqb, ne_eqb}
 use lib.Dec.{eqb}
 use lib.ListN.{length}
-use Rattle.address.specs.Choice.{if◌then◌else◌}
 use Rattle.header.specs.Header.{HeaderAnswer, octets_reading}
 use Rattle.header.proofs.Payload.{refused_stand_lem, accepted_stand_lem, accepted-empty, accepted_more}
 use Rattle.node.specs.Node.{is_good}

@@ -1,7 +1,6 @@
 -- The next hop from a packet: "From a packet it is the answer for the address read.", and the order of refusals is "from a packet 1, then the
 -- reading order, then 7".
-use Rattle.std.specs.Prelude.{ℕ, not, List, eqb}
-use Rattle.address.specs.Choice.{if◌then◌else◌}
+use Rattle.std.specs.Prelude.{ℕ, not, List, eqb, if◌then◌else◌}
 use Rattle.header.specs.Header.{reading}
 use Rattle.node.specs.Node.{is_good}
 use Rattle.node.specs.declared.Node.{Node}

@@ -1,7 +1,6 @@
 -- Wrong rules for the next hop from a packet, which demand 1 must exclude: they give a refusal in another's place, or none. Those of an empty packet
 -- demand 3 excludes too.
-use Rattle.std.specs.Prelude.{ℕ, not, ◌&&◌, List, eqb}
-use Rattle.address.specs.Choice.{if◌then◌else◌}
+use Rattle.std.specs.Prelude.{ℕ, not, ◌&&◌, List, eqb, if◌then◌else◌}
 use Rattle.header.specs.Header.{octets_reading, reading}
 use Rattle.node.specs.Node.{address_in, is_good}
 use Rattle.node.specs.declared.Node.{Node}

@@ -1,5 +1,6 @@
 // The next hop from a packet: the record is judged first, then the header is read, then the answer is that for the address read.
 #![tactic(auto)]
+
 ghost use Rattle.std.specs.Prelude.{◌≡◌};
 ghost use Rattle.forward.specs.Forward.{hop_answer};
 ghost use Rattle.packet.specs.Packet.{packet_hop};
