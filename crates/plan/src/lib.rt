@@ -1,5 +1,6 @@
 // A hall's plan, read into lent words: specs/Grammar.antt has the text, specs/Hall.antt the addresses, specs/Plan.antt the refusals.
 #![tactic(auto)]
+
 ghost use Rattle.std.specs.Prelude.{◌≡◌, true, false, ◌∷◌, [], ◌+◌, ◌<◌, ◌≤◌, ◌^◌, length, drop, set, get_or};
 ghost use Rattle.plan.specs.Grammar.{closing};
 ghost use Rattle.plan.specs.Reading.{inside};
