@@ -1,4 +1,5 @@
 -- How much of "R(" a text begins with, by its bytes. Assumes nothing.
+use Rattle.std.specs.Prelude.{if◌then◌else◌}
 use mathlib.Core.Path.{◌≡◌, ◌∙◌}
 use mathlib.Core.Bool.{Bool, true, false}
 use mathlib.Core.List.{List, [], ◌∷◌}
@@ -9,7 +10,6 @@ use lib.ListN.{length, drop, get_or, drop_of_length-le}
 use lib.Seq.{drop-cons}
 use lib.Dec.{eqb}
 use borrow.Author.Tests.{eq-eqb, ne_eqb}
-use Rattle.address.specs.Choice.{if◌then◌else◌}
 use Rattle.plan.specs.Grammar.{letter_r, opening}
 use Rattle.plan.specs.Progress.{matched, matched_second}
 

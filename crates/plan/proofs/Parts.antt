@@ -1,4 +1,5 @@
 -- Parts of a text that are read: one that gives some addresses, one with a fault, one behind another, and one inside a group. Assumes nothing.
+use Rattle.std.specs.Prelude.{if◌then◌else◌}
 use mathlib.Core.Path.{◌≡◌, refl, sym, ap, ap₂, ◌∙◌}
 use mathlib.Core.Bool.{Bool, true, false}
 use mathlib.Core.List.{List, [], ◌∷◌, ◌++◌}
@@ -7,7 +8,6 @@ use native.Mathlib.Nat.{add-zero, add-suc, suc-add}
 use native.Mathlib.Omega.{arith}
 use lib.ListN.{length, drop, set, length-append}
 use lib.Seq.{sets, length-sets}
-use Rattle.address.specs.Choice.{if◌then◌else◌}
 use Rattle.node.specs.declared.Node.{Node}
 use Rattle.plan.specs.Limits.{most_groups}
 use Rattle.plan.specs.Reading.{Expected, Reading, behind, fault_at, read_from}

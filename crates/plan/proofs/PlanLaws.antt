@@ -1,4 +1,5 @@
 -- What `planning` comes to, one law for each answer: the tests that passed on the way, and the one that decides. Assumes nothing.
+use Rattle.std.specs.Prelude.{if◌then◌else◌}
 use mathlib.Core.Path.{◌≡◌, refl, sym, ap, ◌∙◌}
 use mathlib.Core.Bool.{Bool, true, false}
 use mathlib.Core.List.{List, [], ◌∷◌, ◌++◌}
@@ -8,7 +9,6 @@ use native.Mathlib.Omega.{arith}
 use lib.ListN.{length, drop}
 use lib.Seq.{sets, sets-eq}
 use borrow.Author.Tests.{lt-ltb, le-ltb}
-use Rattle.address.specs.Choice.{if◌then◌else◌}
 use Rattle.plan.specs.Limits.{most_bytes, most_nodes}
 use Rattle.plan.specs.Reading.{whole, fault_at, reading}
 use Rattle.plan.specs.Plan.{Planned, PlanEffect, refuse_plan, missing, listed, judged, planning}

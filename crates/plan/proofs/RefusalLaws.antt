@@ -1,5 +1,6 @@
 -- A plan is refused exactly where one of the conditions holds: the reading of a plan ends in one of six ways, each with its condition and with
 -- those before it passed. Assumes nothing.
+use Rattle.std.specs.Prelude.{if◌then◌else◌}
 use Prim.Native.Nat.{ℕ, ◌≤◌, ◌<◌}
 use mathlib.Core.Path.{◌≡◌, refl}
 use mathlib.Core.Bool.{Bool, true, false}
@@ -9,7 +10,6 @@ use native.Mathlib.Omega.{arith}
 use borrow.Author.Tests.{ltb-true, ltb-false}
 use lib.ListN.{length, drop}
 use lib.Dec.{ltb}
-use Rattle.address.specs.Choice.{if◌then◌else◌}
 use Rattle.address.specs.Order.{First, done, ◌when◌otherwise◌}
 use Rattle.address.proofs.OrderLaws.{given-exactly}
 use Rattle.plan.specs.Limits.{most_bytes, most_nodes}

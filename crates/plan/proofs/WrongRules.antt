@@ -1,5 +1,6 @@
 -- Each wrong rule is refuted by its answer to one text: what the right rule comes to there is all that the statement allows. Where the text is
 -- long, laws say what it comes to.
+use Rattle.std.specs.Prelude.{if◌then◌else◌}
 use Prim.Native.Nat.{ℕ, zero, suc, ◌+◌, ◌≤◌, ◌<◌}
 use mathlib.Core.Path.{◌≡◌, refl, sym, ap, subst, ◌∙◌}
 use mathlib.Core.Bool.{Bool, true, false}
@@ -11,7 +12,6 @@ use native.Mathlib.Omega.{arith}
 use lib.ListN.{length, drop, replicate, get_or, length-replicate}
 use lib.Dec.{ltb}
 use borrow.Author.Tests.{ltb-true, ltb-false, lt-ltb, le-ltb}
-use Rattle.address.specs.Choice.{if◌then◌else◌}
 use Rattle.address.specs.Bits.{last_bit, bits_in, bits, digit, number_from, number, root}
 use Rattle.address.specs.Steps.{last_of, step_bits}
 use Rattle.address.specs.Address.{bit_length, ends_in_one, is_host}

@@ -1,7 +1,6 @@
 -- Reading a plan into lent words. "Text over [32,768] bytes: 14. Then a text outside the grammar (a 65th open group counts): 13, with the place
 -- .. Then over [4,096] nodes, the root counted: 14. Then an address too long: 3. Then no room: 10."
-use Rattle.std.specs.Prelude.{ℕ, zero, suc, List, [], ◌∷◌, ◌++◌, length, drop, ltb}
-use Rattle.address.specs.Choice.{if◌then◌else◌}
+use Rattle.std.specs.Prelude.{ℕ, zero, suc, List, [], ◌∷◌, ◌++◌, length, drop, ltb, if◌then◌else◌}
 use Rattle.plan.specs.Limits.{most_bytes, most_nodes}
 use Rattle.plan.specs.Reading.{Reading, whole, fault_at, reading}
 pub use Rattle.plan.specs.declared.Planned.{Planned}

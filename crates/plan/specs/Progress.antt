@@ -1,8 +1,7 @@
 -- What the functions inside the reading of a plan come to: a part of the text, read from one place to another, whichever groups are open around
 -- it.
-use Rattle.std.specs.Prelude.{ℕ, suc, ◌+◌, ◌≤◌, ◌≡◌, List, [], ◌∷◌, length, drop, eqb}
+use Rattle.std.specs.Prelude.{ℕ, suc, ◌+◌, ◌≤◌, ◌≡◌, List, [], ◌∷◌, length, drop, eqb, if◌then◌else◌}
 use Rattle.std.proofs.lemmas.List.Edits.{sets}
-use Rattle.address.specs.Choice.{if◌then◌else◌}
 use Rattle.node.specs.declared.Node.{Node}
 use Rattle.plan.specs.Limits.{most_groups}
 use Rattle.plan.specs.Grammar.{letter_r, opening}

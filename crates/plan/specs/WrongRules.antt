@@ -1,7 +1,6 @@
 -- Wrong rules for reading a plan, which demand 1 must exclude: impostors, slips in the order of the refusals and in what stands beside them, other
 -- limits, and slips in the reading. Each but the impostor goes by the right rule with one part or its numbers exchanged.
-use Rattle.std.specs.Prelude.{ℕ, suc, ◌-◌, not, ◌&&◌, ◌||◌, List, [], ◌∷◌, ◌++◌, length, take, drop, set, eqb, ltb}
-use Rattle.address.specs.Choice.{if◌then◌else◌}
+use Rattle.std.specs.Prelude.{ℕ, suc, ◌-◌, not, ◌&&◌, ◌||◌, List, [], ◌∷◌, ◌++◌, length, take, drop, set, eqb, ltb, if◌then◌else◌}
 use Rattle.address.specs.Bits.{root}
 use Rattle.address.specs.declared.Kind.TheVariants.{Router}
 use Rattle.node.specs.Node.{address_in, fresh, child_of}
