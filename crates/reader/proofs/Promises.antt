@@ -1,5 +1,5 @@
 -- What the functions of this crate promise, by their contracts as the code states them, is `reader_at`, `reading` and `recovering`: the definitions of
--- which the theorem is proved. None of them asks anything of its caller. A function over the reader has no `Reads`: its clauses are quoted.
+-- which the theorem is proved. None of them asks anything of its caller. The clauses of the functions over the reader are quoted.
 use mathlib.Core.Path.{◌≡◌, refl}
 use mathlib.Core.List.{List}
 use Prim.Native.Nat.{ℕ}
@@ -10,7 +10,7 @@ use prog.Routine.{Routine}
 use types.Logic.{Logic}
 use contract.Lifetimes.{Lfts}
 use contract.Monad.{Fun, fact}
-use denote.Ref.{Bor}
+use Rattle.std.specs.Borrow.{Bor, MutBor}
 use denote.Triple.Clauses.{AtExit}
 use Rattle.journal.specs.declared.Recovered.{Recovered}
 use Rattle.journal.specs.Recovery.{recovering}
@@ -21,9 +21,12 @@ use Rattle.reader.specs.contracts.Reader.next as next
 use Rattle.reader.specs.contracts.Reader.place as place
 use Rattle.reader.proofs.recover.Reads as recover-reads
 
--- a lent slice
+-- a lent slice, and one that is lent to be written
 abbrev Slice : Type 0
 Slice = Bor (List ℕ)
+
+abbrev MutSlice : Type 0
+MutSlice = MutBor (List ℕ)
 
 module _ {M : Type 1} {𝓤 : Ura M} (𝓛 : Logic 𝓤) (mem : Memory → SProp 𝓤) (run : Routine → Fun 𝓤) where
   pub start_promise : (κs : Lfts 1) (journal : Slice) (r : Reader) (end : AtExit start.ended κs)
@@ -33,7 +36,7 @@ module _ {M : Type 1} {𝓤 : Ura M} (𝓛 : Logic 𝓤) (mem : Memory → SProp
   pub start-asks-nothing : (κs : Lfts 1) (journal : Slice) → (start.clauses 𝓛 mem run κs (journal, tt)).requires tt ≡ emp 𝓤
   start-asks-nothing κs journal = refl
 
-  module _ (κs : Lfts 2) (reader : Reader) (words : Slice) (written nodes : ℕ) where
+  module _ (κs : Lfts 2) (reader : Reader) (words : MutSlice) (written nodes : ℕ) where
     pub next_promise : (r : Taken) (end : AtExit next.ended κs)
         → (next.clauses 𝓛 mem run κs (reader, (words, (written, (nodes, tt))))).ensures tt r end
         ≡ fact 𝓤 ((r ≡ (reading reader written nodes words.now).taken) × (end.1.0.now ≡ (reading reader written nodes words.now).words))
@@ -49,8 +52,8 @@ module _ {M : Type 1} {𝓤 : Ura M} (𝓛 : Logic 𝓤) (mem : Memory → SProp
   pub place-asks-nothing : (κs : Lfts 1) (reader : Reader) → (place.clauses 𝓛 mem run κs (reader, tt)).requires tt ≡ emp 𝓤
   place-asks-nothing κs reader = refl
 
-module _ (κs : Lfts 2) (journal words : Slice) where
-  pub recover_promise : (last : Slice) (r : Recovered) → recover-reads.Learnt κs (journal, (words, tt)) r (journal, (last, tt))
+module _ (κs : Lfts 2) (journal : Slice) (words : MutSlice) where
+  pub recover_promise : (last : MutSlice) (r : Recovered) → recover-reads.Learnt κs (journal, (words, tt)) r (journal, (last, tt))
       → (r ≡ (recovering journal.now words.now).answer) × (last.now ≡ (recovering journal.now words.now).words)
   recover_promise last r h = h
 

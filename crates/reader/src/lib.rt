@@ -1,6 +1,7 @@
 // The reader of a journal: it keeps hold of the lent slice and of its place, and answers a slot at a time. specs/Reader.antt says what it answers,
 // specs/SameAnswers.antt that from the first slot on this is what recovery gives.
 #![tactic(auto)]
+
 ghost use Rattle.std.specs.Prelude.{◌≡◌, ◌≤◌, ◌<◌, length};
 ghost use Rattle.journal.specs.Limits.{most_nodes};
 ghost use Rattle.journal.specs.Slots.{slot_count};
