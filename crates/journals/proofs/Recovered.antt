@@ -1,6 +1,6 @@
 -- A record by its address and counts alone, with 64 and 64: it is good where the record is, gives each child that the record gives, and is the
 -- record itself where that has no cap. Assumes nothing.
-use Prim.Native.Nat.{ℕ, ◌-◌}
+use Prim.Native.Nat.{ℕ}
 use mathlib.Core.Path.{◌≡◌, refl, sym, ap, ap₂, ◌∙◌}
 use mathlib.Core.Bool.{true}
 use native.Mathlib.Omega.{arith}
