@@ -11,7 +11,7 @@ use borrow.Author.Tests.{ne_eqb}
 use lib.ListN.{length, get_or, drop, length-append, drop_of_length-le}
 use lib.Seq.{drop-cons}
 use lib.Dec.{eqb}
-use Rattle.address.specs.Choice.{if◌then◌else◌}
+use Rattle.std.specs.Prelude.{if◌then◌else◌}
 use Rattle.address.specs.Bits.{Bit, O, I, digit, number_from, number}
 use Rattle.address.proofs.Numbers.{number_snoc}
 use Rattle.line.specs.Line.{digit_zero, digit_one, is_digit, digits_of}

@@ -9,7 +9,7 @@ use borrow.Author.Tests.{eqb-true}
 use lib.ListN.{length, drop, length-map}
 use lib.Seq.{drop_at}
 use lib.Dec.{eqb}
-use Rattle.address.specs.Choice.{if◌then◌else◌}
+use Rattle.std.specs.Prelude.{if◌then◌else◌}
 use Rattle.address.specs.Bits.{Bit, O, I, bits, number}
 use Rattle.octets.specs.Octets.{same}
 use Rattle.address.specs.Numbers.{IsAddressString, IsAddress}

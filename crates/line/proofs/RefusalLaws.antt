@@ -9,7 +9,7 @@ use native.Mathlib.Omega.{arith}
 use borrow.Author.Tests.{ltb-true, ltb-false}
 use lib.ListN.{length, drop, get_or}
 use lib.Dec.{ltb}
-use Rattle.address.specs.Choice.{if◌then◌else◌}
+use Rattle.std.specs.Prelude.{if◌then◌else◌}
 use Rattle.address.specs.Order.{done, GivenExactly}
 use Rattle.address.specs.Numbers.{IsAddress}
 use Rattle.address.proofs.OrderLaws.{given-exactly, first-if}

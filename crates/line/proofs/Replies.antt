@@ -8,7 +8,7 @@ use borrow.Author.Tests.{ne_eqb, le-ltb, ltb-false}
 use lib.ListN.{length, take, drop}
 use lib.Seq.{take_at}
 use lib.Dec.{ltb}
-use Rattle.address.specs.Choice.{if◌then◌else◌}
+use Rattle.std.specs.Prelude.{if◌then◌else◌}
 use Rattle.octets.specs.declared.Written.{Written}
 use Rattle.octets.specs.Octets.{WriteEffect, refuse_writing, write}
 use Rattle.address.specs.Numbers.{IsAddress}

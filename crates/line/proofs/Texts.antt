@@ -9,7 +9,7 @@ use native.Mathlib.Omega.{arith}
 use borrow.Author.Tests.{lt-ltb, le-ltb}
 use lib.ListN.{length, length-append, length-map}
 use lib.Dec.{ltb}
-use Rattle.address.specs.Choice.{if◌then◌else◌}
+use Rattle.std.specs.Prelude.{if◌then◌else◌}
 use Rattle.address.specs.Bits.{Bit, O, I, last_bit, bits_in, bits, longest, digit as value}
 use Rattle.address.specs.Address.{bit_length}
 use Rattle.address.proofs.Numbers.{digit-last_bit, bits_snoc}

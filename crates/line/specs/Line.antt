@@ -1,8 +1,7 @@
 -- The path program's work: from the octets of its input to those of its output. "It reads one line from standard input: two addresses in
 -- binary digits, one space between, a newline, nothing after. Anything else, a leading zero or a 65th digit included, prints `refused 11`
 -- and a newline and no more."
-use Rattle.std.specs.Prelude.{ℕ, ◌+◌, ◌/◌, ◌%◌, Bool, false, ◌&&◌, ◌||◌, List, [], ◌∷◌, ◌++◌, map, length, drop, eqb, leb, ltb}
-use Rattle.address.specs.Choice.{if◌then◌else◌}
+use Rattle.std.specs.Prelude.{ℕ, ◌+◌, ◌/◌, ◌%◌, Bool, false, ◌&&◌, ◌||◌, List, [], ◌∷◌, ◌++◌, map, length, drop, eqb, leb, ltb, if◌then◌else◌}
 use Rattle.address.specs.Bits.{Bit, O, I, bits, number, longest}
 use Rattle.octets.specs.Octets.{WriteEffect, refuse_writing, write, same}
 use Rattle.route.specs.Path.{path, hops}

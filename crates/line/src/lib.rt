@@ -4,8 +4,7 @@
 mod read;
 mod write;
 
-ghost use Rattle.std.specs.Prelude.{◌≡◌, ◌<◌, length, ltb};
-ghost use Rattle.address.specs.Choice.{if◌then◌else◌};
+ghost use Rattle.std.specs.Prelude.{◌≡◌, ◌<◌, length, ltb, if◌then◌else◌};
 ghost use Rattle.octets.specs.Octets.{WriteEffect, refuse_writing, write};
 ghost use Rattle.route.specs.Path.{path};
 ghost use Rattle.line.specs.Line.{refused_text, path_text, answering};

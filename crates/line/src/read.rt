@@ -1,6 +1,5 @@
 // Reading the line: binary digits from a place on, an address in them, and the two addresses of the whole input.
-ghost use Rattle.std.specs.Prelude.{◌≡◌, ◌+◌, ◌%◌, ◌^◌, length, drop, eqb};
-ghost use Rattle.address.specs.Choice.{if◌then◌else◌};
+ghost use Rattle.std.specs.Prelude.{◌≡◌, ◌+◌, ◌%◌, ◌^◌, length, drop, eqb, if◌then◌else◌};
 ghost use Rattle.address.specs.Bits.{number as value_of};
 ghost use Rattle.line.specs.Line.{digits_of, are_address, parsed, between, unreadable};
 
