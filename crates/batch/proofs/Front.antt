@@ -1,5 +1,6 @@
 -- What the call for many destinations leaves, one destination at a time: with the first n answers in front, storing the next one at n gives
 -- the first n + 1. Assumes nothing.
+use Rattle.std.specs.Prelude.{if◌then◌else◌}
 use mathlib.Core.Path.{◌≡◌, refl, sym, ap, ◌∙◌}
 use mathlib.Core.Bool.{Bool, true, false}
 use mathlib.Core.List.{List, ◌++◌, map}
@@ -11,7 +12,6 @@ use borrow.Author.Tests.{leb-true, leb-false}
 use lib.Dec.{leb}
 use lib.ListN.{length, take, drop, get_or, set, length-set, length-map, get_or-map}
 use lib.Seq.{paste, paste-suc}
-use Rattle.address.specs.Choice.{if◌then◌else◌}
 use Rattle.batch.specs.Batch.{least, front}
 
 picked : (a b : ℕ) (t : Bool) → leb a b ≡ t → ((if t then a else b) ≤ a) × ((if t then a else b) ≤ b)

@@ -4,7 +4,7 @@ use mathlib.Core.Path.{◌≡◌}
 use mathlib.Core.List.{List}
 use Prim.Native.Nat.{ℕ}
 use contract.Lifetimes.{Lfts}
-use denote.Ref.{Bor}
+use Rattle.std.specs.Borrow.{Bor, MutBor}
 use Rattle.node.specs.declared.Node.{Node}
 use Rattle.forward.specs.declared.Hop.{Hop}
 use Rattle.forward.specs.Forward.{hop_answer}
@@ -13,9 +13,12 @@ use Rattle.batch.specs.Batch.{BatchEffect, next_hops}
 use Rattle.batch.proofs.pasa_hop.Reads as pasa-hop-reads
 use Rattle.batch.proofs.next_hops.Reads as next-hops-reads
 
--- a lent slice
+-- a lent slice, to read and to write
 abbrev Slice : Type 0
 Slice = Bor (List ℕ)
+
+abbrev SliceMut : Type 0
+SliceMut = MutBor (List ℕ)
 
 pub pasa_hop_promise : (h : Hop) (r : PasaHop) → pasa-hop-reads.Learnt tt (h, tt) r (h, tt) → r ≡ pasa_hop (hop_answer h)
 pasa_hop_promise h r e = e
@@ -23,8 +26,8 @@ pasa_hop_promise h r e = e
 pub pasa_hop-asks-nothing : (h : Hop) → pasa-hop-reads.Asked tt (h, tt)
 pasa_hop-asks-nothing h = tt
 
-module _ (κs : Lfts 4) (n : Node) (ds nodes actions refusals : Slice) where
-  pub next-hops_promise : (nodes' actions' refusals' : Slice) (r : ℕ)
+module _ (κs : Lfts 4) (n : Node) (ds : Slice) (nodes actions refusals : SliceMut) where
+  pub next-hops_promise : (nodes' actions' refusals' : SliceMut) (r : ℕ)
       → next-hops-reads.Learnt κs (n, (ds, (nodes, (actions, (refusals, tt))))) r (n, (ds, (nodes', (actions', (refusals', tt)))))
       → ◌≡◌ {A = BatchEffect} record { count = r; nodes = nodes'.now; actions = actions'.now; refusals = refusals'.now }
       (next_hops n ds.now nodes.now actions.now refusals.now)

@@ -1,17 +1,16 @@
 -- The batch does as many as the shortest slice allows, and for each what a single call answers. Assumes nothing.
+use Rattle.std.specs.Prelude.{if◌then◌else◌}
 use mathlib.Core.Path.{◌≡◌, refl, ◌∙◌}
 use mathlib.Core.Bool.{Bool, true, false}
 use mathlib.Core.Logic.{◌⊎◌, inl, inr}
-use mathlib.Core.List.{List}
 use Prim.Native.Nat.{ℕ, ◌≤◌}
 use native.Mathlib.Omega.{arith}
 use borrow.Author.Tests.{leb-true, leb-false}
 use lib.Dec.{leb}
 use lib.ListN.{length}
-use Rattle.address.specs.Choice.{if◌then◌else◌}
 use Rattle.batch.specs.Exported.{pasa_hop}
 use Rattle.batch.specs.Batch.{hop_for, front, first_hops, least, shortest, next_hops}
-use Rattle.batch.specs.Exactly.{IsBatch, Batches}
+use Rattle.batch.specs.Exactly.{Batches}
 
 least-one : (a b : ℕ) → (least a b ≤ a) × (least a b ≤ b) × ((least a b ≡ a) ⊎ (least a b ≡ b))
 unfolding least

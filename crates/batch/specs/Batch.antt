@@ -1,6 +1,5 @@
 -- The next hops for many destinations at one node: for each the answer of a single call, as many as the shortest slice allows.
-use Rattle.std.specs.Prelude.{ℕ, List, ◌++◌, map, length, take, drop, leb}
-use Rattle.address.specs.Choice.{if◌then◌else◌}
+use Rattle.std.specs.Prelude.{ℕ, List, ◌++◌, map, length, take, drop, leb, if◌then◌else◌}
 use Rattle.node.specs.declared.Node.{Node}
 use Rattle.forward.specs.Forward.{next_hop}
 use Rattle.batch.specs.Exported.{PasaHop, pasa_hop}

@@ -4,8 +4,8 @@
 // compiler takes it into the loop, and what the rules ask of the node alone out of it. A call of `forward::next_hop` for each destination
 // takes up to twice as long.
 #![tactic(auto)]
-ghost use Rattle.std.specs.Prelude.{◌≡◌, true, false, ◌%◌, eqb, drop};
-ghost use Rattle.address.specs.Choice.{if◌then◌else◌};
+
+ghost use Rattle.std.specs.Prelude.{◌≡◌, true, false, ◌%◌, eqb, drop, if◌then◌else◌};
 ghost use Rattle.address.specs.Bits.{bits};
 ghost use Rattle.address.specs.Address.{bit_length, is_host};
 ghost use Rattle.address.specs.Numbers.{IsAddress};
@@ -77,11 +77,11 @@ fn kind_of(child: Address) -> Kind
 
 // Rule 4: the next child on the way to an address of which the node's is a proper prefix.
 fn toward(node: Node, destination: Address) -> PasaHop
-    requires address { IsAddress node.address.number }
-    requires address_2 { IsAddress destination.number }
-    requires number_value { is_host node.address.number ≡ false }
-    requires number_value_2 { is_prefix (bits node.address.number) (bits destination.number) ≡ true }
-    requires fact { destination.number ≡ node.address.number → ⊥ }
+    requires node_address { IsAddress node.address.number }
+    requires destination_address { IsAddress destination.number }
+    requires no_host { is_host node.address.number ≡ false }
+    requires prefix { is_prefix (bits node.address.number) (bits destination.number) ≡ true }
+    requires other { destination.number ≡ node.address.number → ⊥ }
     ensures { result ≡ pasa_hop (toward node (looked_at (drop (bit_length node.address.number) (bits destination.number)))) }
 {
     let length = node.address.bit_length();
@@ -145,6 +145,7 @@ fn hop(node: Node, destination: Address) -> PasaHop
     toward(node, destination)
 }
 
+#[tactic(auto, unfolding(crate::specs::Batch::least))]
 fn least(a: usize, b: usize) -> usize
     ensures { result ≡ least a b }
 {
