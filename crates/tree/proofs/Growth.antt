@@ -1,7 +1,7 @@
 -- Every grown tree is sound. The bare root is, and a request keeps a sound tree sound: refused or asked of nobody it changes nothing, and a
 -- child given is the one step that the count raised makes room for, so it is new, hangs from the node asked, and has no children itself. A setting
 -- hands back a good record of the same address and counts, and soundness asks no more of one.
-use Prim.Native.Nat.{ℕ, suc, ◌+◌, ◌<◌}
+use Prim.Native.Nat.{ℕ, suc, ◌<◌}
 use mathlib.Core.Path.{◌≡◌, refl, sym, ap, ◌∙◌, subst}
 use mathlib.Core.Bool.{true}
 use mathlib.Core.Logic.{◌⊎◌, inl, inr, ⊎_elim}

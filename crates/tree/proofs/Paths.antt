@@ -87,13 +87,13 @@ module _ (t : Tree) (sound : Sound t) where
   pub in_tree_ancestor_or_self : {d : ℕ} (x : List Step) → InTree d t → AncestorOrSelf x (steps d) → InTree (address_of x) t
   in_tree_ancestor_or_self x m (dropped, e) = ancestors dropped x m e
 
-  walk_route : {a d : ℕ} {w : List ℕ} → InTree a t → InTree d t → Route d a w → Walk t a d w
-  walk_route {a} m k (arrived e) = rw (← e) (here m)
-  walk_route {a} {d} m k (up off r) =
+  walk_route : {d a : ℕ} {w : List ℕ} → InTree a t → InTree d t → Route d a w → Walk t a d w
+  walk_route m k (arrived e) = rw (← e) (here m)
+  walk_route {d} {a} m k (up off r) =
       let below = off_root a d off in
       let n = sound.parents a m below in
       along (inl (record { lower = m; upper = n; not_root = below; is_parent = refl })) (walk_route n k r)
-  walk_route {a} {d} m k (down s on r) =
+  walk_route {d} {a} m k (down s on r) =
       let c = address_of (s ∷ steps a) in
       let n = in_tree_ancestor_or_self (s ∷ steps a) k on in
       let h = sound.address c n in

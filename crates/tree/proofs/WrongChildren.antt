@@ -57,6 +57,7 @@ other_than_110 : Memᴰ {A = ℕ} 0b110 (0b1 ∷ 0b10 ∷ 0b111 ∷ []) → ⊥
 other_than_110 (Memᴰ.head e) = omega arith
 other_than_110 (Memᴰ.tail (Memᴰ.head e)) = omega arith
 other_than_110 (Memᴰ.tail (Memᴰ.tail (Memᴰ.head e))) = omega arith
+other_than_110 (Memᴰ.tail (Memᴰ.tail (Memᴰ.tail i))) = elim i [ ]
 
 one-count-absent : InTree 0b110 (grown shared_count set_limit router_then_host) → ⊥
 unfolding trees_opened shared_count

@@ -39,6 +39,7 @@ raised-absent i = other i
   where
     other : Memᴰ {A = ℕ} 0b10 (0b1 ∷ []) → ⊥
     other (Memᴰ.head e) = omega arith
+    other (Memᴰ.tail i) = elim i [ ]
 
 raised-there : InTree root (grown child_of raises_count (sets_root ∷ []))
 unfolding trees_opened raises_count handing_back
