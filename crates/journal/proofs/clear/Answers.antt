@@ -38,9 +38,6 @@ loop-i-preserved c =
       cleared-turn _ loop.words _ loop.i loop.invariant.0 c.loop-i-test.true loop.invariant.3,
     )
 
-pub shape_of-words : goal.shape_of-words
-shape_of-words c = c.loop-i.invariant.2
-
 pub returns : goal.returns
 returns c =
     let loop = c.loop-i in

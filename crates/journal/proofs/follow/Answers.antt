@@ -1,5 +1,5 @@
 -- `journal::follow` meets its contract: before each turn the addresses before the place are taken without a fault.
-use mathlib.Core.Path.{refl, ◌∙◌}
+use mathlib.Core.Path.{refl}
 use native.Mathlib.Omega.{arith}
 use Rattle.journal.proofs.FollowLaws.{follows-begin, follows-turn, follows-stop, follows-end}
 use Rattle.journal.proofs.follow.Goals as goal
@@ -13,9 +13,6 @@ pub take-at-requires : goal.take-at-requires
 take-at-requires c =
     let loop = c.loop-i in
     (loop.invariant.2.within, omega (arith, loop.invariant.2.same))
-
-pub shape_of-words-then-at-ne0 : goal.shape_of-words-then-at-ne0
-shape_of-words-then-at-ne0 c = c.take-at.ensures.same ∙ c.loop-i.invariant.2.same
 
 pub returns-then-at-ne0 : goal.returns-then-at-ne0
 returns-then-at-ne0 c =
@@ -34,9 +31,6 @@ loop-i-preserved c =
     follows-turn start.addresses.now start.nodes start.words.now loop.words _ loop.at taken.result loop.i (omega arith)
     loop.invariant.1 loop.invariant.2 taken.ensures in
     (omega arith, c.if-at-ne0.false, more)
-
-pub shape_of-words : goal.shape_of-words
-shape_of-words c = c.loop-i.invariant.2.same
 
 pub returns : goal.returns
 returns c =

@@ -1,6 +1,6 @@
 -- `journal::follow_slot` meets its contract, as `follow` does: what is read at a place is the address there.
 use Prim.Native.Nat.{ℕ, ◌+◌, ◌*◌, ◌-◌, ◌%◌, ◌^◌, ◌≤◌, ◌<◌}
-use mathlib.Core.Path.{◌≡◌, refl, ◌∙◌}
+use mathlib.Core.Path.{◌≡◌, refl}
 use mathlib.Core.List.{List}
 use native.Mathlib.Omega.{arith}
 use lib.ListN.{length, take, drop, get_or}
@@ -30,9 +30,6 @@ take-at-requires c =
     let loop = c.loop-i in
     (loop.invariant.2.within, omega (arith, loop.invariant.2.same))
 
-pub shape_of-words-then-at-ne0 : goal.shape_of-words-then-at-ne0
-shape_of-words-then-at-ne0 c = c.take-at.ensures.same ∙ c.loop-i.invariant.2.same
-
 pub returns-then-at-ne0 : goal.returns-then-at-ne0
 returns-then-at-ne0 c =
     let start = c.args in
@@ -56,9 +53,6 @@ loop-i-preserved c =
     follows-turn (addresses_in slot) start.nodes start.words.now at.words _ at.at c.take-at.result at.i
     (omega (arith, length-addresses_in slot)) at.invariant.1 at.invariant.2 (rw found at c.take-at.ensures) in
     (omega arith, c.if-at-ne0.false, more)
-
-pub shape_of-words : goal.shape_of-words
-shape_of-words c = c.loop-i.invariant.2.same
 
 pub returns : goal.returns
 returns c =

@@ -1,6 +1,6 @@
 -- `journal::replay` meets its contract: before each turn the state is one on the way, and as many slots more as are left come to the whole.
 use Prim.Native.Nat.{◌≤◌}
-use mathlib.Core.Path.{ap, ◌∙◌}
+use mathlib.Core.Path.{ap}
 use native.Mathlib.Omega.{arith}
 use borrow.Author.Tests.{not-true, not-false}
 use lib.ListN.{length, set, length-set}
@@ -30,11 +30,6 @@ loop-at-preserved c =
     let going = not-true _ c.loop-at-test.true in
     let taken = c.take_slot-at in
     rw (taken.ensures.0, taken.ensures.1) (turning-turn start.journal.now _ room state loop.invariant going)
-
-pub shape_of-words : goal.shape_of-words
-shape_of-words c =
-    let start = c.args in
-    c.loop-at.invariant.way.same ∙ length-set start.words.now 0 1
 
 pub returns : goal.returns
 unfolding begin

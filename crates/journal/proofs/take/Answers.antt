@@ -7,9 +7,6 @@ use Rattle.journal.proofs.ReplayLaws.{taken_other, taken-full}
 use Rattle.journal.proofs.FollowLaws.{follows-fault, follows-taken}
 use Rattle.journal.proofs.take.Goals as goal
 
-pub slice_bounds-is_next-end-2 : goal.slice_bounds-is_next-end-2
-slice_bounds-is_next-end-2 c = sym (length-take-le c.args.nodes c.args.words.now (omega arith))
-
 pub returns-then-not-is_next : goal.returns-then-not-is_next
 returns-then-not-is_next c =
     let at = c.args in
