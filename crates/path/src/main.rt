@@ -1,12 +1,25 @@
 // The path program: one line of two addresses in, the path between them out.
 #![tactic(auto)]
-use libc::{STDIN_FILENO, STDOUT_FILENO};
 
-fn main() {
-    let mut input = [0u8; line::WINDOW];
-    let count = io::read_full(STDIN_FILENO, &mut input);
+ghost use Rattle.std.specs.Prelude.{IfSome, OnOk};
+ghost use Rattle.std.specs.Io.KnownBytes.{Appends};
+ghost use Rattle.line.specs.Line.{output_text};
+
+use std::alloc::Global;
+use std::io;
+use std::io::{Read, Write};
+
+// Reads what decides of the input, and writes the whole output for all of it.
+fn run<R: Read + Drop, W: Write>(alloc: Global, from: R, to: &mut W) -> io::Result<()>
+    ensures { OnOk result (IfSome (R.remaining from) (λ input. Appends (W.contents to.old) (W.contents to.new) (output_text input))) }
+{
+    let mut input = Vec::new(alloc);
+    from.take(line::WINDOW as u64).read_to_end(&mut input)?;
     let mut output = [0u8; line::ROOM];
-    let text = line::answer(&input[..count], &mut output);
-    let size = text.count;
-    io::write_all(STDOUT_FILENO, &output[..size]);
+    let text = line::answer(&input, &mut output);
+    to.write_all(&output[..text.count])
+}
+
+fn main(rt: HostRuntime) -> io::Result<()> {
+    run(rt.alloc(), rt.stdin(), &mut rt.stdout())
 }
