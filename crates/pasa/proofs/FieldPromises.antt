@@ -4,7 +4,7 @@ use mathlib.Core.Path.{◌≡◌}
 use mathlib.Core.List.{List}
 use Prim.Native.Nat.{ℕ, ◌^◌, ◌<◌}
 use contract.Lifetimes.{Lfts}
-use denote.Ref.{Bor}
+use Rattle.std.specs.Borrow.{Bor, MutBor}
 use Rattle.octets.specs.Octets.{AreOctets}
 use Rattle.octets.specs.declared.Written.{Written}
 use Rattle.nsa.specs.Fields.{writing, reading}
@@ -16,14 +16,17 @@ use Rattle.pasa.proofs.bytes.pasa_written.Reads as written-reads
 use Rattle.pasa.proofs.fields.pasa_nsa_write.Reads as nsa-write-reads
 use Rattle.pasa.proofs.fields.pasa_nsa_read.Reads as nsa-read-reads
 
--- a lent slice
+-- a lent slice, to read and to write
 abbrev Slice : Type 0
 Slice = Bor (List ℕ)
 
-pub nsa_write-asks-nothing : (κs : Lfts 1) (l s d : ℕ) (out : Slice) → nsa-write-reads.Asked κs (l, (s, (d, (out, tt))))
+abbrev SliceMut : Type 0
+SliceMut = MutBor (List ℕ)
+
+pub nsa_write-asks-nothing : (κs : Lfts 1) (l s d : ℕ) (out : SliceMut) → nsa-write-reads.Asked κs (l, (s, (d, (out, tt))))
 nsa_write-asks-nothing κs l s d out = tt
 
-pub nsa_write_promise : (κs : Lfts 1) (l s d : ℕ) (out last : Slice) (r : PasaWritten)
+pub nsa_write_promise : (κs : Lfts 1) (l s d : ℕ) (out last : SliceMut) (r : PasaWritten)
     → nsa-write-reads.Learnt κs (l, (s, (d, (out, tt)))) r (l, (s, (d, (last, tt))))
     → (r ≡ pasa_written (writing l s d out.now).answer) × (last.now ≡ (writing l s d out.now).buffer) × (s < 2 ^ 64) × (d < 2 ^ 64)
 nsa_write_promise κs l s d out last r h = h

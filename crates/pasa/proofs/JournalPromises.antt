@@ -3,7 +3,7 @@ use mathlib.Core.Path.{◌≡◌}
 use mathlib.Core.List.{List}
 use Prim.Native.Nat.{ℕ}
 use contract.Lifetimes.{Lfts}
-use denote.Ref.{Bor}
+use Rattle.std.specs.Borrow.{Bor, MutBor}
 use Rattle.node.specs.declared.Node.{Node}
 use Rattle.crc.specs.Crc.{crc}
 use Rattle.journal.specs.Record.{record_in}
@@ -20,19 +20,22 @@ use Rattle.pasa.proofs.journals.pasa_journal_recover.Reads as recover-reads
 use Rattle.pasa.proofs.journals.pasa_journal_record.Reads as record-reads
 use Rattle.pasa.proofs.journals.pasa_crc.Reads as crc-reads
 
--- a lent slice
+-- a lent slice, to read and to write
 abbrev Slice : Type 0
 Slice = Bor (List ℕ)
+
+abbrev SliceMut : Type 0
+SliceMut = MutBor (List ℕ)
 
 pub node_promise : (n : Node) (r : PasaNode) → node-reads.Learnt tt (n, tt) r (n, tt) → r ≡ pasa_node n
 node_promise n r h = h
 
-pub journal-write_promise : (κs : Lfts 2) (journal addresses last : Slice) (r : PasaBlock)
+pub journal-write_promise : (κs : Lfts 2) (journal : SliceMut) (addresses : Slice) (last : SliceMut) (r : PasaBlock)
     → write-reads.Learnt κs (journal, (addresses, tt)) r (last, (addresses, tt))
     → (r ≡ pasa_block (writing journal.now addresses.now).answer) × (last.now ≡ (writing journal.now addresses.now).journal)
 journal-write_promise κs journal addresses last r h = h
 
-pub journal-recover_promise : (κs : Lfts 2) (journal words last : Slice) (r : PasaRecovered)
+pub journal-recover_promise : (κs : Lfts 2) (journal : Slice) (words last : SliceMut) (r : PasaRecovered)
     → recover-reads.Learnt κs (journal, (words, tt)) r (journal, (last, tt))
     → (r ≡ pasa_recovered (recovering journal.now words.now).answer) × (last.now ≡ (recovering journal.now words.now).words)
 journal-recover_promise κs journal words last r h = h
@@ -49,10 +52,10 @@ crc_promise κs octets r h = h
 pub node-asks-nothing : (n : Node) → node-reads.Asked tt (n, tt)
 node-asks-nothing n = tt
 
-pub journal-write-asks-nothing : (κs : Lfts 2) (journal addresses : Slice) → write-reads.Asked κs (journal, (addresses, tt))
+pub journal-write-asks-nothing : (κs : Lfts 2) (journal : SliceMut) (addresses : Slice) → write-reads.Asked κs (journal, (addresses, tt))
 journal-write-asks-nothing κs journal addresses = tt
 
-pub journal-recover-asks-nothing : (κs : Lfts 2) (journal words : Slice) → recover-reads.Asked κs (journal, (words, tt))
+pub journal-recover-asks-nothing : (κs : Lfts 2) (journal : Slice) (words : SliceMut) → recover-reads.Asked κs (journal, (words, tt))
 journal-recover-asks-nothing κs journal words = tt
 
 pub journal-record-asks-nothing : (κs : Lfts 1) (words : Slice) (a : ℕ) → record-reads.Asked κs (words, (a, tt))

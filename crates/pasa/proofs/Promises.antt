@@ -4,7 +4,7 @@ use mathlib.Core.Path.{◌≡◌}
 use mathlib.Core.List.{List}
 use Prim.Native.Nat.{ℕ}
 use contract.Lifetimes.{Lfts}
-use denote.Ref.{Bor}
+use Rattle.std.specs.Borrow.{Bor, MutBor}
 use Rattle.address.specs.declared.Kind.TheVariants.{Router, Host}
 use Rattle.node.specs.Node.{fresh, child_of, set_limit}
 use Rattle.node.specs.declared.Node.{Node}
@@ -42,9 +42,12 @@ use Rattle.pasa.proofs.bytes.pasa_ipv6_read.Reads as ipv6-read-reads
 use Rattle.pasa.proofs.paths.pasa_path.Reads as path-reads
 use Rattle.pasa.proofs.plans.pasa_plan_read.Reads as plan-read-reads
 
--- a lent slice
+-- a lent slice, to read and to write
 abbrev Slice : Type 0
 Slice = Bor (List ℕ)
+
+abbrev SliceMut : Type 0
+SliceMut = MutBor (List ℕ)
 
 pub node_of_promise : (n : PasaNode) (r : Node) → node-of-reads.Learnt tt (n, tt) r (n, tt) → r ≡ node_of n
 node_of_promise n r h = h
@@ -76,13 +79,13 @@ pub packet_next-hop_promise : (κs : Lfts 1) (n : PasaNode) (packet : Slice) (r 
     → r ≡ pasa_hop (packet_hop (node_of n) packet.now)
 packet_next-hop_promise κs n packet r h = h
 
-pub next-hops_promise : (κs : Lfts 4) (n : PasaNode) (ds nodes actions refusals nodes' actions' refusals' : Slice) (r : ℕ)
+pub next-hops_promise : (κs : Lfts 4) (n : PasaNode) (ds : Slice) (nodes actions refusals nodes' actions' refusals' : SliceMut) (r : ℕ)
     → next-hops-reads.Learnt κs (n, (ds, (nodes, (actions, (refusals, tt))))) r (n, (ds, (nodes', (actions', (refusals', tt)))))
     → ◌≡◌ {A = BatchEffect} record { count = r; nodes = nodes'.now; actions = actions'.now; refusals = refusals'.now }
     (next_hops (node_of n) ds.now nodes.now actions.now refusals.now)
 next-hops_promise κs n ds nodes actions refusals nodes' actions' refusals' r h = h
 
-pub header-write_promise : (κs : Lfts 1) (a : ℕ) (out last : Slice) (r : PasaWritten)
+pub header-write_promise : (κs : Lfts 1) (a : ℕ) (out last : SliceMut) (r : PasaWritten)
     → header-write-reads.Learnt κs (a, (out, tt)) r (a, (last, tt))
     → (r ≡ pasa_written (writing a out.now).answer) × (last.now ≡ (writing a out.now).buffer)
 header-write_promise κs a out last r h = h
@@ -92,7 +95,7 @@ pub header-read_promise : (κs : Lfts 1) (packet : Slice) (r : PasaRead)
     → r ≡ pasa_read (reading packet.now)
 header-read_promise κs packet r h = h
 
-pub ipv6_write_promise : (κs : Lfts 2) (prefix : Slice) (a : ℕ) (out last : Slice) (r : PasaWritten)
+pub ipv6_write_promise : (κs : Lfts 2) (prefix : Slice) (a : ℕ) (out last : SliceMut) (r : PasaWritten)
     → ipv6-write-reads.Learnt κs (prefix, (a, (out, tt))) r (prefix, (a, (last, tt)))
     → (r ≡ pasa_written (form_writing prefix.now a out.now).answer) × (last.now ≡ (form_writing prefix.now a out.now).buffer)
 ipv6_write_promise κs prefix a out last r h = h
@@ -102,12 +105,12 @@ pub ipv6_read_promise : (κs : Lfts 2) (prefix ipv6 : Slice) (r : PasaAddress)
     → r ≡ pasa_address (form_reading prefix.now ipv6.now)
 ipv6_read_promise κs prefix ipv6 r h = h
 
-pub path_promise : (κs : Lfts 1) (a d : ℕ) (words last : Slice) (r : PasaListed)
+pub path_promise : (κs : Lfts 1) (a d : ℕ) (words last : SliceMut) (r : PasaListed)
     → path-reads.Learnt κs (a, (d, (words, tt))) r (a, (d, (last, tt)))
     → (r ≡ pasa_listed (listing a d words.now).answer) × (last.now ≡ (listing a d words.now).words)
 path_promise κs a d words last r h = h
 
-pub plan-read_promise : (κs : Lfts 2) (text words last : Slice) (r : PasaPlan)
+pub plan-read_promise : (κs : Lfts 2) (text : Slice) (words last : SliceMut) (r : PasaPlan)
     → plan-read-reads.Learnt κs (text, (words, tt)) r (text, (last, tt))
     → (r ≡ pasa_plan (planning text.now words.now).answer) × (last.now ≡ (planning text.now words.now).words)
 plan-read_promise κs text words last r h = h
@@ -138,24 +141,24 @@ next-hop-asks-nothing n d = tt
 pub packet_next-hop-asks-nothing : (κs : Lfts 1) (n : PasaNode) (packet : Slice) → packet-next-hop-reads.Asked κs (n, (packet, tt))
 packet_next-hop-asks-nothing κs n packet = tt
 
-pub next-hops-asks-nothing : (κs : Lfts 4) (n : PasaNode) (ds nodes actions refusals : Slice)
+pub next-hops-asks-nothing : (κs : Lfts 4) (n : PasaNode) (ds : Slice) (nodes actions refusals : SliceMut)
     → next-hops-reads.Asked κs (n, (ds, (nodes, (actions, (refusals, tt)))))
 next-hops-asks-nothing κs n ds nodes actions refusals = tt
 
-pub header-write-asks-nothing : (κs : Lfts 1) (a : ℕ) (out : Slice) → header-write-reads.Asked κs (a, (out, tt))
+pub header-write-asks-nothing : (κs : Lfts 1) (a : ℕ) (out : SliceMut) → header-write-reads.Asked κs (a, (out, tt))
 header-write-asks-nothing κs a out = tt
 
 pub header-read-asks-nothing : (κs : Lfts 1) (packet : Slice) → header-read-reads.Asked κs (packet, tt)
 header-read-asks-nothing κs packet = tt
 
-pub ipv6_write-asks-nothing : (κs : Lfts 2) (prefix : Slice) (a : ℕ) (out : Slice) → ipv6-write-reads.Asked κs (prefix, (a, (out, tt)))
+pub ipv6_write-asks-nothing : (κs : Lfts 2) (prefix : Slice) (a : ℕ) (out : SliceMut) → ipv6-write-reads.Asked κs (prefix, (a, (out, tt)))
 ipv6_write-asks-nothing κs prefix a out = tt
 
 pub ipv6_read-asks-nothing : (κs : Lfts 2) (prefix ipv6 : Slice) → ipv6-read-reads.Asked κs (prefix, (ipv6, tt))
 ipv6_read-asks-nothing κs prefix ipv6 = tt
 
-pub path-asks-nothing : (κs : Lfts 1) (a d : ℕ) (words : Slice) → path-reads.Asked κs (a, (d, (words, tt)))
+pub path-asks-nothing : (κs : Lfts 1) (a d : ℕ) (words : SliceMut) → path-reads.Asked κs (a, (d, (words, tt)))
 path-asks-nothing κs a d words = tt
 
-pub plan-read-asks-nothing : (κs : Lfts 2) (text words : Slice) → plan-read-reads.Asked κs (text, (words, tt))
+pub plan-read-asks-nothing : (κs : Lfts 2) (text : Slice) (words : SliceMut) → plan-read-reads.Asked κs (text, (words, tt))
 plan-read-asks-nothing κs text words = tt

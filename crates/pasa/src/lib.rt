@@ -1,9 +1,11 @@
-// The functions of the crates below as C exports, over structs of plain numbers by value. include/pasa.h declares them for C.
+// The functions of the crates below as C exports, over structs of plain numbers by value. include/pasa.h declares them for C. The crate pasa_c, a
+// static library over this one, has them in its archive: `no_mangle` exports nothing from a library.
 //
 // Each promise cites the definition of the function below it (`child_of`, `set_limit`, `next_hop`, `packet_hop`, `writing`, `reading`, `listing`,
 // `planning`, `recovering`), through the definitions of specs/ that turn a record or an answer into the struct exported. An address is a plain
 // 64-bit number here, and zero in its place is refused as the crates below refuse it.
 #![tactic(auto)]
+
 pub mod addresses;
 pub mod bytes;
 pub mod children;
