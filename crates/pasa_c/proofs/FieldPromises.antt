@@ -1,0 +1,38 @@
+-- What the exports of the older fields promise, by their contracts as the code states them, is what the functions below them are defined to answer,
+-- shown in the exported structs; and they ask nothing.
+use mathlib.Core.Path.{◌≡◌}
+use mathlib.Core.List.{List}
+use Prim.Native.Nat.{ℕ, ◌^◌, ◌<◌}
+use contract.Lifetimes.{Lfts}
+use Rattle.std.specs.Borrow.{Bor, MutBor}
+use Rattle.octets.specs.Octets.{AreOctets}
+use Rattle.nsa.specs.Fields.{writing, reading}
+use Rattle.pasa.specs.declared.bytes.PasaWritten.{PasaWritten}
+use Rattle.pasa.specs.declared.fields.PasaNsa.{PasaNsa}
+use Rattle.pasa.specs.Bytes.{pasa_written}
+use Rattle.pasa.specs.Fields.{pasa_nsa}
+use Rattle.pasa_c.proofs.fields.pasa_nsa_write.Reads as nsa-write-reads
+use Rattle.pasa_c.proofs.fields.pasa_nsa_read.Reads as nsa-read-reads
+
+-- a lent slice, to read and to write
+abbrev Slice : Type 0
+Slice = Bor (List ℕ)
+
+abbrev SliceMut : Type 0
+SliceMut = MutBor (List ℕ)
+
+pub nsa_write-asks-nothing : (κs : Lfts 1) (l s d : ℕ) (out : SliceMut) → nsa-write-reads.Asked κs (l, (s, (d, (out, tt))))
+nsa_write-asks-nothing κs l s d out = tt
+
+pub nsa_write_promise : (κs : Lfts 1) (l s d : ℕ) (out last : SliceMut) (r : PasaWritten)
+    → nsa-write-reads.Learnt κs (l, (s, (d, (out, tt)))) r (l, (s, (d, (last, tt))))
+    → (r ≡ pasa_written (writing l s d out.now).answer) × (last.now ≡ (writing l s d out.now).buffer) × (s < 2 ^ 64) × (d < 2 ^ 64)
+nsa_write_promise κs l s d out last r h = h
+
+pub nsa_read-asks-nothing : (κs : Lfts 1) (fields : Slice) → nsa-read-reads.Asked κs (fields, tt)
+nsa_read-asks-nothing κs fields = tt
+
+pub nsa_read_promise : (κs : Lfts 1) (fields : Slice) (r : PasaNsa)
+    → nsa-read-reads.Learnt κs (fields, tt) r (fields, tt)
+    → (r ≡ pasa_nsa (reading fields.now)) × AreOctets fields.now
+nsa_read_promise κs fields r h = h
