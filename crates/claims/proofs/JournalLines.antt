@@ -1,8 +1,8 @@
 -- The front page's lines on a journal, each taken from the record that carries it. Assumes nothing.
 use Rattle.std.specs.Prelude.{if◌then◌else◌}
-use Prim.Native.Nat.{ℕ, suc, ◌+◌, ◌-◌, ◌/◌, ◌%◌, ◌^◌, ◌≤◌}
+use Prim.Native.Nat.{ℕ, suc, ◌/◌, ◌%◌, ◌^◌, ◌≤◌}
 use mathlib.Core.Path.{◌≡◌, refl, sym, ap, ap₂, subst, ◌∙◌}
-use mathlib.Core.Bool.{Bool, true, false, not, ◌&&◌, and_false}
+use mathlib.Core.Bool.{Bool, true, false, not, ◌&&◌, and-false}
 use mathlib.Core.Logic.{◌⊎◌, inl, inr}
 use mathlib.Core.List.{List, [], ◌∷◌, ◌++◌}
 use native.Mathlib.Omega.{arith}
@@ -327,7 +327,7 @@ module _ (a w : ℕ) (words : List ℕ) where
 
   no_kind : (kind : Kind) → (parent w ≡ a → ⊥) ⊎ (is_kind kind w ≡ false) → (eqb (parent w) a && is_kind kind w) ≡ false
   no_kind kind (inl ne) = rw (ne_eqb (parent w) a ne) refl
-  no_kind kind (inr e) = rw e (and_false (eqb (parent w) a))
+  no_kind kind (inr e) = rw e (and-false (eqb (parent w) a))
 
   no_router_lem : (parent w ≡ a → ⊥) ⊎ (is_host w ≡ true) → (parent w ≡ a → ⊥) ⊎ (is_kind Router w ≡ false)
   unfolding is_kind

@@ -26,7 +26,7 @@ use Rattle.address.proofs.KindLaws.{kinds}
 use Rattle.address.proofs.RefusalLaws.{address-refusals}
 use Rattle.address.proofs.Promises.{one-made, of_promise, of_asks-nothing, new_promise, new-asks-nothing, bit-length_promise, bit-length-asks-nothing, is_host_promise, is_host-asks-nothing, depth_promise, depth-asks-nothing, parent_promise, parent-asks-nothing}
 use Rattle.address.specs.Kinds.{IsRoot, IsRouter, IsHost}
-use Rattle.octets.specs.Octets.{octets, value, same}
+use Rattle.octets.specs.Octets.{octets, same}
 use Rattle.octets.specs.declared.Written.{Written}
 use Rattle.octets.proofs.Correspondence.{octets-one_to_one, value-zeros, same_exactly}
 use Rattle.octets.proofs.Promises.{put-asks-nothing, get_promise, get-asks-nothing}

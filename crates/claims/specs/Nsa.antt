@@ -8,7 +8,7 @@ use Rattle.address.specs.Order.{Order, done, ◌when◌otherwise◌, ◌then◌,
 use Rattle.address.specs.Numbers.{IsAddress}
 use Rattle.address.specs.declared.Address.{Address}
 use Rattle.octets.specs.declared.Written.{Written}
-use Rattle.octets.specs.Octets.{AreOctets, octets, value, WriteEffect, wrote, refuse_writing}
+use Rattle.octets.specs.Octets.{AreOctets, octets, value, WriteEffect, wrote}
 use Rattle.nsa.specs.declared.Fields.{Fields}
 use Rattle.nsa.specs.declared.Reading.{Reading}
 use Rattle.nsa.specs.declared.Reading.TheVariants.{Found, Refused}
