@@ -9,6 +9,7 @@ use header::Reading;
 use node::{Given, Limited, Limits, Node};
 use octets::Written;
 use route::Listed;
+use std::io;
 
 // "length", "depth", "is-host"
 const LENGTH: u64 = 0x6C_65_6E_67_74_68;
@@ -125,62 +126,78 @@ fn record(numbers: Numbers) -> Node {
 }
 
 // A count as it is typed, with its limit where it has one.
-fn counted(count: u8, limit: u8, value: &[u8], at: usize) -> usize {
-    let end = answer::decimal(count as u64, value, answer::octet(b' ', value, at));
+fn counted(
+    rt: &(impl Print + AllocGlobal),
+    count: u8,
+    limit: u8,
+    value: &[u8],
+    at: usize,
+) -> io::Result<usize> {
+    let end = answer::decimal(rt, count as u64, value, answer::octet(rt, b' ', value, at)?)?;
     if limit == node::NO_CAP {
-        return end;
+        return Ok(end);
     }
-    answer::decimal(limit as u64, value, answer::octet(b'/', value, end))
+    answer::decimal(
+        rt,
+        limit as u64,
+        value,
+        answer::octet(rt, b'/', value, end)?,
+    )
 }
 
 // A record as its arguments are typed.
-fn node(node: Node, value: &[u8], at: usize) -> usize {
-    let end = answer::binary(node.address.number, value, at);
-    let routers = counted(node.routers, node.limits.routers, value, end);
-    counted(node.hosts, node.limits.hosts, value, routers)
+fn node(rt: &(impl Print + AllocGlobal), node: Node, value: &[u8], at: usize) -> io::Result<usize> {
+    let end = answer::binary(rt, node.address.number, value, at)?;
+    let routers = counted(rt, node.routers, node.limits.routers, value, end)?;
+    counted(rt, node.hosts, node.limits.hosts, value, routers)
 }
 
-fn given(given: Given, value: &[u8]) -> usize {
-    let end = answer::address(given.refusal, given.child.number, value);
-    node(given.node, value, answer::text(THEN, value, end))
+fn given(rt: &(impl Print + AllocGlobal), given: Given, value: &[u8]) -> io::Result<usize> {
+    let end = answer::address(rt, given.refusal, given.child.number, value)?;
+    node(rt, given.node, value, answer::text(rt, THEN, value, end)?)
 }
 
 // Whether a limit is set, or the refusal in its place.
-fn setting(refusal: u8, value: &[u8]) -> usize {
+fn setting(rt: &(impl Print + AllocGlobal), refusal: u8, value: &[u8]) -> io::Result<usize> {
     if refusal == 0 {
-        return answer::text(SET, value, 0);
+        return answer::text(rt, SET, value, 0);
     }
-    answer::refused(refusal, 0, value)
+    answer::refused(rt, refusal, 0, value)
 }
 
-fn limited(limited: Limited, value: &[u8]) -> usize {
-    let end = setting(limited.refusal, value);
-    node(limited.node, value, answer::text(THEN, value, end))
+fn limited(rt: &(impl Print + AllocGlobal), limited: Limited, value: &[u8]) -> io::Result<usize> {
+    let end = setting(rt, limited.refusal, value)?;
+    node(rt, limited.node, value, answer::text(rt, THEN, value, end)?)
 }
 
-fn hop(hop: Hop, value: &[u8]) -> usize {
+fn hop(rt: &(impl Print + AllocGlobal), hop: Hop, value: &[u8]) -> io::Result<usize> {
     match hop {
-        Hop::Deliver(a) => answer::binary(a.number, value, answer::text(DELIVER, value, 0)),
-        Hop::Parent(a) => answer::binary(a.number, value, answer::text(UP, value, 0)),
-        Hop::Child(a) => answer::binary(a.number, value, answer::text(DOWN, value, 0)),
-        Hop::Refused(n) => answer::refused(n, 0, value),
+        Hop::Deliver(a) => answer::binary(
+            rt,
+            a.number,
+            value,
+            answer::text(rt, DELIVER, value, 0)?,
+        ),
+        Hop::Parent(a) => answer::binary(rt, a.number, value, answer::text(rt, UP, value, 0)?),
+        Hop::Child(a) => answer::binary(rt, a.number, value, answer::text(rt, DOWN, value, 0)?),
+        Hop::Refused(n) => answer::refused(rt, n, 0, value),
     }
 }
 
-pub(crate) fn made(made: Made, value: &[u8]) -> usize {
+pub(crate) fn made(rt: &(impl Print + AllocGlobal), made: Made, value: &[u8]) -> io::Result<usize> {
     match made {
-        Made::Valid(a) => answer::binary(a.number, value, 0),
-        Made::Refused(n) => answer::refused(n, 0, value),
+        Made::Valid(a) => answer::binary(rt, a.number, value, 0),
+        Made::Refused(n) => answer::refused(rt, n, 0, value),
     }
 }
 
-fn reading(reading: Reading, value: &[u8]) -> usize {
+fn reading(rt: &(impl Print + AllocGlobal), reading: Reading, value: &[u8]) -> io::Result<usize> {
     match reading {
         Reading::Found(a, k) => {
-            let end = answer::binary(a.number, value, 0);
-            answer::decimal(k as u64, value, answer::text(AT, value, end))
+            let end = answer::binary(rt, a.number, value, 0)?;
+            answer::decimal(rt, k as u64, value, answer::text(rt, AT, value, end)?)
         }
-        Reading::Refused(n) => answer::refused(n, 0, value),
+        Reading::Refused(n) => answer::refused(rt, n, 0, value),
     }
 }
 
@@ -203,46 +220,60 @@ fn room(asked: u64, most: usize) -> usize
     most
 }
 
-fn entry(listed: bool, word: u64, value: &[u8], at: usize) -> usize {
+fn entry(rt: &impl Print, listed: bool, word: u64, value: &[u8], at: usize) -> io::Result<usize> {
     if listed {
-        return answer::binary(word, value, answer::octet(b' ', value, at));
+        return answer::binary(rt, word, value, answer::octet(rt, b' ', value, at)?);
     }
-    answer::kept(word, WORD, value, at)
+    answer::kept(rt, word, WORD, value, at)
 }
 
-fn entries(words: &[u64; 130], count: u64, value: &[u8], at: usize) -> usize {
+fn entries(
+    rt: &impl Print,
+    words: &[u64; 130],
+    count: u64,
+    value: &[u8],
+    at: usize,
+) -> io::Result<usize> {
     let mut to = at;
     let mut i = 0;
     while i < 130 {
-        to = entry((i as u64) < count, words[i], value, to);
+        to = entry(rt, (i as u64) < count, words[i], value, to)?;
         i += 1;
     }
-    to
+    Ok(to)
 }
 
 // The hops, and for "path" the addresses; what else is lent is to be as it was.
-fn route(name: u64, l: Listed, words: &[u64; 130], value: &[u8]) -> usize {
+fn route(
+    rt: &(impl Print + AllocGlobal),
+    name: u64,
+    l: Listed,
+    words: &[u64; 130],
+    value: &[u8],
+) -> io::Result<usize> {
     if l.refusal != 0 {
-        return entries(
-            words,
-            0,
-            value,
-            answer::refused(l.refusal, l.hops as u64, value),
-        );
+        let end = answer::refused(rt, l.refusal, l.hops as u64, value)?;
+        return entries(rt, words, 0, value, end);
     }
-    let end = answer::decimal(l.hops as u64, value, 0);
+    let end = answer::decimal(rt, l.hops as u64, value, 0)?;
     if name == HOPS {
-        return end;
+        return Ok(end);
     }
     entries(
+        rt,
         words,
         l.hops as u64 + 1,
         value,
-        answer::text(COUNT, value, end),
+        answer::text(rt, COUNT, value, end)?,
     )
 }
 
-fn path(name: u64, numbers: Numbers, value: &[u8]) -> usize {
+fn path(
+    rt: &(impl Print + AllocGlobal),
+    name: u64,
+    numbers: Numbers,
+    value: &[u8],
+) -> io::Result<usize> {
     let mut words = [WORD; 130];
     let size = room(numbers.c, 130);
     let l = route::path(
@@ -250,30 +281,44 @@ fn path(name: u64, numbers: Numbers, value: &[u8]) -> usize {
         Address::of(numbers.b),
         &mut words[0..size],
     );
-    route(name, l, &words, value)
+    route(rt, name, l, &words, value)
 }
 
-fn item(name: u64, listed: bool, o: u8, value: &[u8], at: usize) -> usize {
+fn item(
+    rt: &(impl Print + AllocGlobal),
+    name: u64,
+    listed: bool,
+    o: u8,
+    value: &[u8],
+    at: usize,
+) -> io::Result<usize> {
     if !listed {
-        return answer::kept(o as u64, OCTET as u64, value, at);
+        return answer::kept(rt, o as u64, OCTET as u64, value, at);
     }
     if name != LINE {
-        return answer::hexadecimal(o as u64, value, at);
+        return answer::hexadecimal(rt, o as u64, value, at);
     }
     if o == b'\n' {
-        return answer::octet(b'/', value, at);
+        return answer::octet(rt, b'/', value, at);
     }
-    answer::octet(o, value, at)
+    answer::octet(rt, o, value, at)
 }
 
-fn items(name: u64, out: &[u8; MOST], count: usize, value: &[u8], at: usize) -> usize {
+fn items(
+    rt: &(impl Print + AllocGlobal),
+    name: u64,
+    out: &[u8; MOST],
+    count: usize,
+    value: &[u8],
+    at: usize,
+) -> io::Result<usize> {
     let mut to = at;
     let mut i = 0;
     while i < MOST {
-        to = item(name, i < count, out[i], value, to);
+        to = item(rt, name, i < count, out[i], value, to)?;
         i += 1;
     }
-    to
+    Ok(to)
 }
 
 fn write(name: u64, a: Address, x: &[u8], out: &mut [u8]) -> Written {
@@ -285,20 +330,21 @@ fn write(name: u64, a: Address, x: &[u8], out: &mut [u8]) -> Written {
 }
 
 // The octets written, or for "octets" how many the address takes of them; what else is lent is to be as it was.
-fn shown(name: u64, w: Written, out: &[u8; MOST], value: &[u8]) -> usize {
+fn shown(
+    rt: &(impl Print + AllocGlobal),
+    name: u64,
+    w: Written,
+    out: &[u8; MOST],
+    value: &[u8],
+) -> io::Result<usize> {
     if w.refusal != 0 {
-        return items(
-            name,
-            out,
-            0,
-            value,
-            answer::refused(w.refusal, w.count as u64, value),
-        );
+        let end = answer::refused(rt, w.refusal, w.count as u64, value)?;
+        return items(rt, name, out, 0, value, end);
     }
     if name == OCTETS {
-        return answer::decimal(std::num::wrapping_sub_usize(w.count, 3) as u64, value, 0);
+        return answer::decimal(rt, w.count.wrapping_sub(3) as u64, value, 0);
     }
-    items(name, out, w.count, value, 0)
+    items(rt, name, out, w.count, value, 0)
 }
 
 // How many octets are lent: by the first number where there is no address before it.
@@ -311,41 +357,65 @@ fn lent(name: u64, numbers: Numbers) -> usize
     room(numbers.b, MOST)
 }
 
-fn written(name: u64, numbers: Numbers, x: &[u8], value: &[u8]) -> usize {
+fn written(
+    rt: &(impl Print + AllocGlobal),
+    name: u64,
+    numbers: Numbers,
+    x: &[u8],
+    value: &[u8],
+) -> io::Result<usize> {
     let mut out = [OCTET; MOST];
     let size = lent(name, numbers);
     let w = write(name, Address::of(numbers.a), x, &mut out[0..size]);
-    shown(name, w, &out, value)
+    shown(rt, name, w, &out, value)
 }
 
-fn of_octets(name: u64, numbers: Numbers, x: &[u8], value: &[u8]) -> usize {
+fn of_octets(
+    rt: &(impl Print + AllocGlobal),
+    name: u64,
+    numbers: Numbers,
+    x: &[u8],
+    value: &[u8],
+) -> io::Result<usize> {
     match name {
-        READ => reading(header::read(x), value),
-        PACKET => hop(packet::next_hop(record(numbers), x), value),
-        WRITE | OCTETS | IPV6 | LINE => written(name, numbers, x, value),
-        _ => answer::text(NOT_READ, value, 0),
+        READ => reading(rt, header::read(x), value),
+        PACKET => hop(rt, packet::next_hop(record(numbers), x), value),
+        WRITE | OCTETS | IPV6 | LINE => written(rt, name, numbers, x, value),
+        _ => answer::text(rt, NOT_READ, value, 0),
     }
 }
 
 // Runs a command and writes its answer.
-pub(crate) fn run(name: u64, numbers: Numbers, x: &[u8], value: &[u8]) -> usize {
+pub(crate) fn run(
+    rt: &(impl Print + AllocGlobal),
+    name: u64,
+    numbers: Numbers,
+    x: &[u8],
+    value: &[u8],
+) -> io::Result<usize> {
     match name {
         LENGTH | DEPTH | IS_HOST => answer::decimal(
+            rt,
             measure(name, Address::of(numbers.a)),
             value,
             0,
         ),
-        PARENT => answer::binary(Address::of(numbers.a).parent().number, value, 0),
-        MAKE => made(Address::new(numbers.a), value),
-        ROUTER => given(record(numbers).child(Kind::Router), value),
-        HOST => given(record(numbers).child(Kind::Host), value),
-        LIMIT_ROUTERS => limited(record(numbers).set_limit(Kind::Router, numbers.d), value),
-        LIMIT_HOSTS => limited(record(numbers).set_limit(Kind::Host, numbers.d), value),
+        PARENT => answer::binary(rt, Address::of(numbers.a).parent().number, value, 0),
+        MAKE => made(rt, Address::new(numbers.a), value),
+        ROUTER => given(rt, record(numbers).child(Kind::Router), value),
+        HOST => given(rt, record(numbers).child(Kind::Host), value),
+        LIMIT_ROUTERS => limited(
+            rt,
+            record(numbers).set_limit(Kind::Router, numbers.d),
+            value,
+        ),
+        LIMIT_HOSTS => limited(rt, record(numbers).set_limit(Kind::Host, numbers.d), value),
         HOP => hop(
+            rt,
             forward::next_hop(record(numbers), Address::of(numbers.d)),
             value,
         ),
-        PATH | HOPS => path(name, numbers, value),
-        _ => of_octets(name, numbers, x, value),
+        PATH | HOPS => path(rt, name, numbers, value),
+        _ => of_octets(rt, name, numbers, x, value),
     }
 }

@@ -30,46 +30,64 @@
 // number goes as far as its digits do, one that is left out is 0, a count and the limit behind it are taken modulo 256, at most 512 octets are
 // read, and what is typed behind the last argument of a command is passed over.
 #![tactic(auto)]
+
 mod answer;
 mod commands;
 mod read;
 
 use commands::BACK;
-use libc::{STDIN_FILENO, STDOUT_FILENO};
+use std::io;
+use std::io::Read;
 
 // A count of cases is the number of those run, and this much more for each whose answer is not the document's value.
 const DIFFERS: u64 = 0x1_0000_0000;
 
-fn say(text: &[u8]) {
-    io::write_all(STDOUT_FILENO, text);
+// The most octets of an input, and one more.
+const TOO_LONG: usize = 32768;
+
+fn say(rt: &impl Print, text: &[u8]) -> io::Result<()> {
+    rt.write_all(text)
 }
 
-fn verdict(same: bool) -> u64 {
+fn verdict(rt: &impl Print, same: bool) -> io::Result<u64> {
     if same {
-        say(b" | ok\n");
-        return 1;
+        say(rt, b" | ok\n")?;
+        return Ok(1);
     }
-    say(b" | DIFFERS\n");
-    DIFFERS + 1
+    say(rt, b" | DIFFERS\n")?;
+    Ok(DIFFERS + 1)
 }
 
 // The command with two runs of octets, the second behind the place named.
-fn back(asked: &[u8], second: usize, prefix: &[u8], value: &[u8]) -> usize {
+fn back(
+    rt: &(impl Print + AllocGlobal),
+    asked: &[u8],
+    second: usize,
+    prefix: &[u8],
+    value: &[u8],
+) -> io::Result<usize> {
     let mut octets = [0u8; 512];
     let count = read::octets(asked, second, &mut octets);
-    commands::made(ipv6::read(prefix, &octets[0..count]), value)
+    commands::made(rt, ipv6::read(prefix, &octets[0..count]), value)
 }
 
 // Runs the command with its arguments, octets behind an `x` among them.
-fn run(asked: &[u8], end: usize, name: u64, value: &[u8]) -> usize {
+fn run(
+    rt: &(impl Print + AllocGlobal),
+    asked: &[u8],
+    end: usize,
+    name: u64,
+    value: &[u8],
+) -> io::Result<usize> {
     let first = read::place(asked, b'x');
     let mut octets = [0u8; 512];
     let count = read::octets(asked, first, &mut octets);
     let x = &octets[0..count];
     if name == BACK {
-        return back(asked, read::behind(first, count), x, value);
+        return back(rt, asked, read::behind(first, count), x, value);
     }
     commands::run(
+        rt,
         name,
         read::arguments(
             asked,
@@ -83,77 +101,74 @@ fn run(asked: &[u8], end: usize, name: u64, value: &[u8]) -> usize {
     )
 }
 
-fn answered(asked: &[u8], value: &[u8]) -> bool {
+fn answered(rt: &(impl Print + AllocGlobal), asked: &[u8], value: &[u8]) -> io::Result<bool> {
     let end = read::place(asked, b' ');
-    run(asked, end, octets::get(&asked[0..end]), value) == value.len()
+    let reached = run(rt, asked, end, octets::get(&asked[0..end]), value)?;
+    Ok(reached == value.len())
 }
 
-fn compared(asked: &[u8], value: &[u8]) -> u64 {
-    say(asked);
-    say(b" | document ");
-    say(value);
-    say(b" | answer ");
-    verdict(answered(asked, value))
+fn compared(rt: &(impl Print + AllocGlobal), asked: &[u8], value: &[u8]) -> io::Result<u64> {
+    say(rt, asked)?;
+    say(rt, b" | document ")?;
+    say(rt, value)?;
+    say(rt, b" | answer ")?;
+    verdict(rt, answered(rt, asked, value)?)
 }
 
-fn unread(line: &[u8]) -> u64 {
-    say(line);
-    say(b" | not read");
-    verdict(false)
+fn unread(rt: &impl Print, line: &[u8]) -> io::Result<u64> {
+    say(rt, line)?;
+    say(rt, b" | not read")?;
+    verdict(rt, false)
 }
 
 // A line `COMMAND ARGUMENTS = VALUE`.
-fn case(line: &[u8]) -> u64 {
+fn case(rt: &(impl Print + AllocGlobal), line: &[u8]) -> io::Result<u64> {
     let sign = read::place(line, b'=');
     if sign < 1 {
-        return unread(line);
+        return unread(rt, line);
     }
     if line.len() - sign < 2 {
-        return unread(line);
+        return unread(rt, line);
     }
-    compared(&line[0..sign - 1], &line[sign + 2..])
+    compared(rt, &line[0..sign - 1], &line[sign + 2..])
 }
 
-fn remark(line: &[u8]) -> u64 {
-    say(line);
-    say(b"\n");
-    0
+fn remark(rt: &impl Print, line: &[u8]) -> io::Result<u64> {
+    say(rt, line)?;
+    say(rt, b"\n")?;
+    Ok(0)
 }
 
-fn judged(line: &[u8]) -> u64 {
+fn judged(rt: &(impl Print + AllocGlobal), line: &[u8]) -> io::Result<u64> {
     if line.len() == 0 {
-        return remark(line);
+        return remark(rt, line);
     }
     if line[0] == b'#' {
-        return remark(line);
+        return remark(rt, line);
     }
-    case(line)
+    case(rt, line)
 }
 
-fn all(text: &[u8]) -> u64 {
-    let mut count = 0;
+fn all(rt: &(impl Print + AllocGlobal), text: &[u8]) -> io::Result<u64> {
+    let mut count: u64 = 0;
     let mut at = 0;
     while at < text.len() {
-        let end = bytes::scan::find(text, at, text.len(), b'\n');
-        count = std::num::wrapping_add_u64(count, judged(&text[at..end]));
+        let end = at + read::place(&text[at..], b'\n');
+        count = count.wrapping_add(judged(rt, &text[at..end])?);
         at = end + 1;
     }
-    count
+    Ok(count)
 }
 
-fn conclude(count: u64) {
-    io::print_decimal(STDOUT_FILENO, count % DIFFERS);
-    say(b" cases, ");
-    io::print_decimal(STDOUT_FILENO, count / DIFFERS);
-    say(b" differ\n");
+fn conclude(rt: &impl Print, count: u64) -> io::Result<()> {
+    println!(rt; "{} cases, {} differ", count % DIFFERS, count / DIFFERS)
 }
 
-fn main() {
-    let mut input = [0u8; 32768];
-    let count = io::read_full(STDIN_FILENO, &mut input);
-    if count == 32768 {
-        say(b"input too long\n");
-        return;
+fn main(rt: HostRuntime) -> io::Result<()> {
+    let mut input = Vec::new(rt.alloc());
+    rt.stdin().take(TOO_LONG as u64).read_to_end(&mut input)?;
+    if input.len() == TOO_LONG {
+        return say(&rt, b"input too long\n");
     }
-    conclude(all(&input[0..count]));
+    conclude(&rt, all(&rt, &input)?)
 }

@@ -83,7 +83,9 @@ fn counted(text: &[u8], from: usize, base: u64) -> Count
 
 // The numbers behind a place: the third is in decimal digits, the others in the bases told.
 pub(crate) fn arguments(text: &[u8], from: usize, first: u64, second: u64, last: u64) -> Numbers
-    requires { (0 < first) × (0 < second) × (0 < last) }
+    requires first_some { 0 < first }
+    requires second_some { 0 < second }
+    requires last_some { 0 < last }
 {
     let a = digits(text, from, first);
     let b = counted(text, a.end, second);
@@ -149,7 +151,7 @@ pub(crate) fn octets(text: &[u8], from: usize, into: &mut [u8]) -> usize
 pub(crate) fn place(text: &[u8], octet: u8) -> usize
     ensures { result ≤ length text.now }
 {
-    bytes::scan::find(text, 0, text.len(), octet)
+    text.iter().position(|o| *o == octet).unwrap_or(text.len())
 }
 
 // Where the second run of octets begins.
