@@ -26,25 +26,25 @@ returns-then-slot-ne-FIRST_BYTE c = sym (is_block-first c.args.slot.now c.if-slo
 pub returns-then-count-lt1 : goal.returns-then-count-lt1
 returns-then-count-lt1 c =
     let slot = c.args.slot.now in
-    sym (is_block_uncounted slot c.if-slot-ne-SLOT.false c.if-slot-ne-FIRST_BYTE.false (is_count-zero (count_in slot) c.if-count-lt1.true))
+    sym (is_block_uncounted slot c.if-slot-ne-SLOT.false c.if-slot-ne-FIRST_BYTE.false (is_count-zero (count_in slot) (omega arith)))
 
 pub returns-then-count-gt-MOST_ADDRESSES : goal.returns-then-count-gt-MOST_ADDRESSES
 returns-then-count-gt-MOST_ADDRESSES c =
     let slot = c.args.slot.now in
-    let many = is_count-many (count_in slot) c.if-count-lt1.false c.if-count-gt-MOST_ADDRESSES.true in
+    let many = is_count-many (count_in slot) (omega arith) (omega arith) in
     sym (is_block_uncounted slot c.if-slot-ne-SLOT.false c.if-slot-ne-FIRST_BYTE.false many)
 
 pub returns-then-not-all_are : goal.returns-then-not-all_are
 returns-then-not-all_are c =
     let slot = c.args.slot.now in
-    let count = counted slot c.if-count-lt1.false c.if-count-gt-MOST_ADDRESSES.false in
+    let count = counted slot (omega arith) (omega arith) in
     let some = sym c.all_are.ensures ∙ c.if-not-all_are.true in
     sym (is_block-zeros slot c.if-slot-ne-SLOT.false c.if-slot-ne-FIRST_BYTE.false count some)
 
 pub returns-then-told-crc : goal.returns-then-told-crc
 returns-then-told-crc c =
     let slot = c.args.slot.now in
-    let count = counted slot c.if-count-lt1.false c.if-count-gt-MOST_ADDRESSES.false in
+    let count = counted slot (omega arith) (omega arith) in
     let zeros = sym c.all_are.ensures ∙ c.if-not-all_are.false in
     let all = all_octets slot (λ i. omega (arith, c.type_inv.slot i)) in
     sym (is_block-check slot c.if-slot-ne-SLOT.false c.if-slot-ne-FIRST_BYTE.false count zeros
@@ -53,7 +53,7 @@ returns-then-told-crc c =
 pub returns : goal.returns
 returns c =
     let slot = c.args.slot.now in
-    let count = counted slot c.if-count-lt1.false c.if-count-gt-MOST_ADDRESSES.false in
+    let count = counted slot (omega arith) (omega arith) in
     let zeros = sym c.all_are.ensures ∙ c.if-not-all_are.false in
     let all = all_octets slot (λ i. omega (arith, c.type_inv.slot i)) in
     sym (is_block-last slot c.if-slot-ne-SLOT.false c.if-slot-ne-FIRST_BYTE.false count zeros

@@ -15,12 +15,12 @@ returns-then-slot-ne-SLOT c = sym (block_put-size c.args.addresses.now c.args.sl
 pub returns-then-addresses-lt1 : goal.returns-then-addresses-lt1
 returns-then-addresses-lt1 c =
     let xs = c.args.addresses.now in
-    sym (block_put_uncounted xs c.args.slot.now c.if-slot-ne-SLOT.false (is_count-zero (length xs) c.if-addresses-lt1.true))
+    sym (block_put_uncounted xs c.args.slot.now c.if-slot-ne-SLOT.false (is_count-zero (length xs) (omega arith)))
 
 pub returns-then-addresses-gt-MOST_ADDRESSES : goal.returns-then-addresses-gt-MOST_ADDRESSES
 returns-then-addresses-gt-MOST_ADDRESSES c =
     let xs = c.args.addresses.now in
-    let many = is_count-many (length xs) c.if-addresses-lt1.false c.if-addresses-gt-MOST_ADDRESSES.true in
+    let many = is_count-many (length xs) (omega arith) (omega arith) in
     sym (block_put_uncounted xs c.args.slot.now c.if-slot-ne-SLOT.false many)
 
 pub returns : goal.returns
@@ -28,7 +28,7 @@ returns c =
     let xs = c.args.addresses.now in
     let slot = c.args.slot.now in
     let size = c.if-slot-ne-SLOT.false in
-    let few : length xs ≤ 63 = c.if-addresses-gt-MOST_ADDRESSES.false in
+    let few : length xs ≤ 63 = omega arith in
     let part = c.put_content.new.out in
     -- the slot with the content in it
     let filled : List ℕ = put_mid 0 checked slot part in
@@ -36,4 +36,4 @@ returns c =
     let whole : length filled ≡ slot_bytes = length_filled_part slot part 0 checked (omega arith) (omega arith) many ∙ size in
     let begun = content-block xs few slot part size c.put_content.ensures in
     tail-block xs few filled c.crc-check.result whole begun (c.crc-check.ensures ∙ ap crc begun)
-    ∙ sym (block_put-done xs slot size (c.if-addresses-lt1.false, few))
+    ∙ sym (block_put-done xs slot size (omega arith, few))
