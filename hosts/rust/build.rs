@@ -11,7 +11,7 @@ fn main() {
     let archive = folder.join("libpasa.a");
     if !archive.is_file() {
         println!(
-            "cargo:warning=no {}: run `rt staticlib pasa` in the repository, or set PASA_LIB_DIR to the archive's folder",
+            "cargo:warning=no {}: run `hosts/archive` in the repository, or set PASA_LIB_DIR to the archive's folder",
             archive.display()
         );
         std::process::exit(1);
