@@ -80,7 +80,7 @@ use Rattle.pasa.specs.Plans.{pasa_plan}
 use Rattle.pasa.specs.Addresses.{host_answer}
 use Rattle.route.proofs.Words.{path-words}
 use Rattle.route.proofs.RefusalLaws.{path-refusals}
-use Rattle.route.proofs.Promises.{path-asks-nothing}
+use Rattle.route.proofs.Promises.{path-asks-nothing, hops_promise, hops-asks-nothing}
 use Rattle.line.specs.Line.{digits_of, after_digits, are_address, after_space, parsed, digit_text, address_text, decimal, lines, hops_text, refused_text, path_text, text_for, output_text}
 use Rattle.line.specs.Exactly.{line_of}
 use Rattle.line.specs.Decimal.{decimal_from, decimal_value}
@@ -642,6 +642,7 @@ asks_nothing = record {
   form_write = form-write-asks-nothing;
   form_read = form-read-asks-nothing;
   path_call = path-asks-nothing;
+  route_hops = hops-asks-nothing;
   line_answer = answer-asks-nothing;
   plan_read = plan-read-asks-nothing;
   batch_hop = pasa_hop-asks-nothing;
@@ -673,6 +674,7 @@ answers_as_defined = record {
   form_write = λ κs prefix a out out' r h. h;
   form_read = form-read-promise;
   path_call = λ κs a d words words' r h. h;
+  route_hops = hops_promise;
   line_answer = λ κs input out out' r h. h;
   plan_read = λ κs text words words' r h. h;
   batch_hop = pasa_hop_promise;

@@ -23,7 +23,7 @@ use Rattle.forward.specs.declared.Hop.{Hop}
 use Rattle.forward.specs.Forward.{hop_answer, next_hop}
 use Rattle.packet.specs.Packet.{packet_hop}
 use Rattle.route.specs.declared.Listed.{Listed}
-use Rattle.route.specs.Path.{listing}
+use Rattle.route.specs.Path.{path, hops, listing}
 use Rattle.plan.specs.Plan.{planning}
 use Rattle.plan.specs.declared.Planned.{Planned}
 use Rattle.line.specs.Line.{answering}
@@ -57,6 +57,7 @@ use Rattle.header.proofs.read.Reads as header-read-reads
 use Rattle.ipv6.proofs.write.Reads as form-write-reads
 use Rattle.ipv6.proofs.read.Reads as form-read-reads
 use Rattle.route.proofs.path.Reads as path-reads
+use Rattle.route.proofs.hops.Reads as hops-reads
 use Rattle.line.proofs.answer.Reads as line_reads
 use Rattle.plan.proofs.read.Reads as plan-reads
 
@@ -91,6 +92,7 @@ pub record AsksNothing : Type 0 where
   pub form_write : (κs : Lfts 2) (prefix : Slice) (a : Address) (out : SliceMut) → form-write-reads.Asked κs (prefix, (a, (out, tt)))
   pub form_read : (κs : Lfts 2) (prefix ipv6 : Slice) → form-read-reads.Asked κs (prefix, (ipv6, tt))
   pub path_call : (κs : Lfts 1) (a d : Address) (words : SliceMut) → path-reads.Asked κs (a, (d, (words, tt)))
+  pub route_hops : (a d : Address) → hops-reads.Asked tt (a, (d, tt))
   pub line_answer : (κs : Lfts 2) (input : Slice) (out : SliceMut) → line_reads.Asked κs (input, (out, tt))
   pub plan_read : (κs : Lfts 2) (text : Slice) (words : SliceMut) → plan-reads.Asked κs (text, (words, tt))
   pub batch_hop : (h : Hop) → pasa-hop-reads.Asked tt (h, tt)
@@ -132,6 +134,7 @@ pub record AnswersAsDefined : Type 0 where
   pub path_call : (κs : Lfts 1) (a d : Address) (words words' : SliceMut) (r : Listed)
       → path-reads.Learnt κs (a, (d, (words, tt))) r (a, (d, (words', tt)))
       → (r ≡ (listing a.number d.number words.now).answer) × (words'.now ≡ (listing a.number d.number words.now).words)
+  pub route_hops : (a d : Address) (r : ℕ) → hops-reads.Learnt tt (a, (d, tt)) r (a, (d, tt)) → r ≡ hops (path a.number d.number)
   pub line_answer : (κs : Lfts 2) (input : Slice) (out out' : SliceMut) (r : Written) → line_reads.Learnt κs (input, (out, tt)) r (input, (out', tt))
       → (r ≡ (answering input.now out.now).answer) × (out'.now ≡ (answering input.now out.now).buffer)
   pub plan_read : (κs : Lfts 2) (text : Slice) (words words' : SliceMut) (r : Planned) → plan-reads.Learnt κs (text, (words, tt)) r (text, (words', tt))

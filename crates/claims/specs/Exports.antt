@@ -1,6 +1,6 @@
--- What the exports of the archive promise: each asks nothing, and answers what the function below it is defined to answer, in a struct of plain
--- numbers with the same names (crates/pasa/specs, and of the next hops crates/batch/specs); a record has its two limits flat. The exports of Four,
--- Five and Seven have pages of their own.
+-- What pasa's functions promise, each of which the archive exports once more (pasa_c, whose page Archive has these lines of the exports themselves):
+-- each asks nothing, and answers what the function below it is defined to answer, in a struct of plain numbers with the same names
+-- (crates/pasa/specs, and of the next hops crates/batch/specs); a record has its two limits flat. Those of Four, Five and Seven have pages of their own.
 use Rattle.std.specs.Prelude.{◌≡◌, ℕ}
 use contract.Lifetimes.{Lfts}
 use Rattle.address.specs.declared.Kind.TheVariants.{Router, Host}

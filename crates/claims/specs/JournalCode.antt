@@ -125,8 +125,7 @@ pub record JournalAnswersAsDefined : Type 0 where
   pub pasa_crc : (κs : Lfts 1) (os : Slice) (r : ℕ) → pasa-crc-reads.Learnt κs (os, tt) r (os, tt) → r ≡ crc os.now
 
 -- "a reader that keeps hold of the lent journal and its place .. which from the first slot on gives the same answers; what it answers from any other
--- state is left open": asked until it is done. The contracts of `start`, `next` and `place` are quoted clause by clause, since what takes or gives a
--- struct that holds a slice has no `Asked` and `Learnt`.
+-- state is left open": asked until it is done. The contracts of `start`, `next` and `place` are quoted clause by clause.
 pub record TheReader : Type 2 where
   pub same_answers : SameAnswers reading
   -- what that says of any reader, field by field

@@ -22,7 +22,7 @@ pub mod Excluded
 pub mod Code
 -- the answers' cases and the exported structs, number by number
 pub mod Structs
--- and what the archive's exports promise
+-- and what the functions promise that the archive exports
 pub mod Exports
 -- and what the code of request Four promises
 pub mod JournalCode
