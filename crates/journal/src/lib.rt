@@ -69,6 +69,7 @@ pub struct Record {
 }
 
 // The address that was given last if this one is the next child: the child before it, or its parent.
+#[tactic(auto, unfolding(crate::specs::Replay::before))]
 fn before(address: u64) -> u64
     ensures { result ≡ before address }
 {
@@ -326,6 +327,7 @@ fn is_length(bytes: usize) -> bool
 }
 
 // "Recovery first checks the length (12), then that at least [4,096] words are lent (10)": a refusal's number, 0 where neither is wrong.
+#[tactic(auto, unfolding(crate::specs::Recovery::unfit))]
 pub fn unfit(bytes: usize, words: usize) -> u8
     ensures { result ≡ unfit bytes words }
 {
