@@ -1,10 +1,13 @@
 -- A writing comes to a refusal or to some octets in front of the buffer, so its refusal's number tells which. Assumes nothing.
-use mathlib.Core.Path.{◌≡◌, ap}
+use Rattle.std.specs.Prelude.{Result}
+use mathlib.Core.Path.{◌≡◌, refl, ap}
 use mathlib.Core.Logic.{◌⊎◌, inl, inr}
 use mathlib.Core.List.{List}
 use Prim.Native.Nat.{ℕ, suc}
 use native.Mathlib.Omega.{arith}
-use Rattle.octets.specs.Octets.{WriteEffect, refuse_writing, write}
+use Rattle.refusal.specs.declared.Refusal.{Refusal}
+use Rattle.refusal.proofs.Outcomes.{one-answer}
+use Rattle.octets.specs.Octets.{written_answer, WriteEffect, refuse_writing, write}
 use Rattle.octets.specs.Lent.{RefusalLeaves, SuccessWrites}
 
 pub refusal-refuse_writing : (n : ℕ) (buffer : List ℕ) {w : WriteEffect} → w ≡ refuse_writing n buffer → w.answer.refusal ≡ n
@@ -33,3 +36,7 @@ pub outcome-writes : (os buffer : List ℕ) (w : WriteEffect) → Outcome os buf
 unfolding write
 outcome-writes os buffer w o z =
     let e = outcome-done os buffer w o z in (ap (λ (x : WriteEffect). x.answer.count) e, ap (λ (x : WriteEffect). x.buffer) e)
+
+-- the numbers of an answer leave one case of it
+pub one-written : (r s : Result ℕ Refusal) → written_answer r ≡ written_answer s → r ≡ s
+one-written = one-answer written_answer (λ w. w.refusal) (λ w. w.count) (λ k. refl) (λ k. refl) (λ x. refl)

@@ -1,6 +1,8 @@
 -- Numbers as octets: "the address, most significant octet first".
 use Rattle.std.specs.Prelude.{ℕ, zero, suc, ◌+◌, ◌*◌, ◌/◌, ◌%◌, ◌<◌, Bool, true, false, ◌&&◌, List, [], ◌∷◌, ◌++◌, length, drop, eqb}
-use Rattle.octets.specs.declared.Written.{Written}
+use Rattle.std.specs.Prelude.{Result, Ok, Err}
+use Rattle.refusal.specs.declared.Refusal.{Refusal}
+use Rattle.refusal.specs.Refusal.{number_of}
 
 -- the last k octets of n
 unfoldable pub octets : ℕ → ℕ → List ℕ
@@ -28,6 +30,11 @@ same [] (y ∷ ys) = false
 same (x ∷ xs) [] = false
 same (x ∷ xs) (y ∷ ys) = eqb x y && same xs ys
 
+-- What writing into a lent buffer answers: a refusal's number, 0 where it is done, and how many octets were written, 0 in a refusal.
+pub record Written : Type 0 where
+  pub refusal : ℕ
+  pub count : ℕ
+
 -- What writing into a lent buffer comes to: the answer, and what the buffer holds at the end.
 pub record WriteEffect : Type 0 where
   pub answer : Written
@@ -36,6 +43,11 @@ pub record WriteEffect : Type 0 where
 -- done, with so many octets
 abbrev pub wrote : ℕ → Written
 wrote k = record { refusal = 0; count = k }
+
+-- the papers' numbers for each case of the answer
+abbrev pub written_answer : Result ℕ Refusal → Written
+written_answer (Ok k) = wrote k
+written_answer (Err r) = record { refusal = number_of r; count = 0 }
 
 -- "no byte or word lent is changed", and the number of octets written is 0
 unfoldable pub refuse_writing : ℕ → List ℕ → WriteEffect

@@ -1,9 +1,7 @@
 -- `octets::put` meets its contract. Assumes nothing.
 use Rattle.std.proofs.Common.{ℕ, zero, suc, ◌≡◌, ◌≤◌, ◌<◌, ◌-◌, ◌/◌, ◌%◌, List, [], ◌∷◌, ◌++◌, length, drop, set, sym, ap, ap₂, ◌∙◌, append_assoc, arith}
 use Rattle.std.proofs.Math.Nat.{lt-suc_self}
-use Rattle.std.proofs.Math.ListN.{length-set}
-use Rattle.std.proofs.Math.Seq.{drop-cons, drop-length, drop-set-lt, get_or-set_same, lt-length-set}
-use mathlib.Core.List.{append-nil}
+use Rattle.std.proofs.Math.Seq.{drop-cons, drop-set-lt, get_or-set_same, lt-length-set}
 use Rattle.octets.specs.Octets.{octets}
 use Rattle.octets.proofs.put.Goals as goal
 
@@ -23,21 +21,13 @@ turn all out (suc j) n some room e =
     ∙ append_assoc (octets j (n / 256)) (n % 256 ∷ []) (drop (suc j) out)
     ∙ ap (λ (l : List ℕ). octets j (n / 256) ++ l) (sym (drop-set out j (n % 256) room)))
 
-pub loop-i-init : goal.loop-i-init
-loop-i-init c =
-    let out = c.args.out.now in
-    (omega arith, sym (append-nil (octets (length out) c.args.number)) ∙ ap (λ (l : List ℕ). octets (length out) c.args.number ++ l) (sym (drop-length out)))
-
 pub loop-i-preserved : goal.loop-i-preserved
 loop-i-preserved c =
-    let loop = c.loop-i in (
-      rw (length-set loop.out (loop.i - 1) (loop.rest % 256)) (omega arith),
-      turn _ loop.out loop.i loop.rest c.loop-i-test.true loop.invariant.0 loop.invariant.1,
-    )
+    let loop = c.loop-i in turn _ loop.out loop.i loop.rest (omega arith) (omega arith) loop.invariant
 
 pub returns : goal.returns
 unfolding octets
 returns c =
     let loop = c.loop-i in
     let done : loop.i ≡ 0 = omega arith in
-    sym (loop.invariant.1 ∙ ap (λ (i : ℕ). octets i loop.rest ++ drop i loop.out) done)
+    sym (loop.invariant ∙ ap (λ (i : ℕ). octets i loop.rest ++ drop i loop.out) done)
