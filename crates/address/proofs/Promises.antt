@@ -8,7 +8,10 @@ use native.Mathlib.Omega.{arith}
 use lib.Dec.{eqb}
 use borrow.Author.Tests.{eqb-false}
 use Rattle.address.specs.Bits.{longest, root}
-use Rattle.address.specs.Address.{Address, Made, Valid, Refused, AddressAnswer, refused_address, valid_address, made_answer, made, bit_length, is_host, depth, parent}
+use Rattle.std.specs.Prelude.{Result}
+use Rattle.refusal.specs.declared.Refusal.{Refusal}
+use Rattle.refusal.proofs.Outcomes.{one-answer}
+use Rattle.address.specs.Address.{Address, AddressAnswer, refused_address, valid_address, made_answer, made, bit_length, is_host, depth, parent}
 use Rattle.address.proofs.Address.of.Reads as of-reads
 use Rattle.address.proofs.Address.new.Reads as new-reads
 use Rattle.address.proofs.Address.bit_length.Reads as bit-length-reads
@@ -24,7 +27,7 @@ of_promise n r h = h
 pub of_asks-nothing : (n : ℕ) → of-reads.Asked tt (n, tt)
 of_asks-nothing n = tt
 
-pub new_promise : (n : ℕ) (r : Made) → new-reads.Learnt tt (n, tt) r (n, tt) → made_answer r ≡ made n
+pub new_promise : (n : ℕ) (r : Result Address Refusal) → new-reads.Learnt tt (n, tt) r (n, tt) → made_answer r ≡ made n
 new_promise n r h = h
 
 pub new-asks-nothing : (n : ℕ) → new-reads.Asked tt (n, tt)
@@ -72,8 +75,6 @@ made-refused k {n} e z = go (eqb k 0) refl e
     go true q f = omega (arith, ap (λ (x : AddressAnswer). x.refusal) f)
     go false q f = eqb-false k 0 q (ap (λ (x : AddressAnswer). x.address) f)
 
-pub one-made : (k : ℕ) (r s : Made) → made_answer r ≡ made k → made_answer s ≡ made k → r ≡ s
-one-made k (Valid a) (Valid b) e f = ap (λ (x : AddressAnswer). Valid (record { number = x.address })) (e ∙ sym f)
-one-made k (Refused m) (Refused n) e f = ap (λ (x : AddressAnswer). Refused x.refusal) (e ∙ sym f)
-one-made k (Valid a) (Refused n) e f = absurd (made-refused k (sym f) (ap (λ (x : AddressAnswer). x.refusal) (f ∙ sym e)))
-one-made k (Refused m) (Valid b) e f = absurd (made-refused k (sym e) (ap (λ (x : AddressAnswer). x.refusal) (e ∙ sym f)))
+pub one-made : (k : ℕ) (r s : Result Address Refusal) → made_answer r ≡ made k → made_answer s ≡ made k → r ≡ s
+one-made k r s e f =
+    one-answer made_answer (λ x. x.refusal) (λ x. record { number = x.address }) (λ a. refl) (λ a. refl) (λ x. refl) r s (e ∙ sym f)

@@ -4,8 +4,9 @@ use Rattle.std.specs.Prelude.{ℕ, Bool, true, false, ◌&&◌, List, [], ◌∷
 use Rattle.address.specs.Bits.{Bit, O, I, bits}
 use Rattle.address.specs.Steps.{Step, steps, address_of}
 pub use Rattle.address.specs.declared.Address.{Address}
-pub use Rattle.address.specs.declared.Made.{Made}
-pub use Rattle.address.specs.declared.Made.TheVariants.{Valid, Refused}
+use Rattle.std.specs.Prelude.{Result, Ok, Err}
+use Rattle.refusal.specs.declared.Refusal.{Refusal}
+use Rattle.refusal.specs.Refusal.{number_of}
 
 -- "Its length is 64 less the count of leading zeros": the bit string's length
 unfoldable pub bit_length : ℕ → ℕ
@@ -48,9 +49,9 @@ abbrev pub refused_address : ℕ → AddressAnswer
 refused_address n = record { refusal = n; address = 0 }
 
 -- the document's number and values for each case of the answer
-abbrev pub made_answer : Made → AddressAnswer
-made_answer (Valid a) = valid_address a.number
-made_answer (Refused n) = refused_address n
+abbrev pub made_answer : Result Address Refusal → AddressAnswer
+made_answer (Ok a) = valid_address a.number
+made_answer (Err r) = refused_address (number_of r)
 
 -- refusal 9: "an address is zero"
 unfoldable pub made : ℕ → AddressAnswer

@@ -1,33 +1,25 @@
 // Addresses: the path from the root as a string of at most 64 bits, held right-justified in a 64-bit number.
 //
 // What an address is stands in specs/Bits.antt (numbers and bit strings) and specs/Steps.antt (bit strings and steps). Zero is no address:
-// it stands in an answer beside a refusal, and each function says what it answers for it.
+// what comes from outside can hold it, and each function says what it answers for it.
 #![tactic(auto)]
 
 ghost use Rattle.std.specs.Prelude.{◌≡◌};
 ghost use Rattle.address.specs.Bits.{longest, root};
 ghost use Rattle.address.specs.Address.{made_answer, made, bit_length, is_host, depth, parent};
 
-// Refusal 9: "an address is zero".
-pub const ZERO_ADDRESS: u8 = 9;
+use refusal::Refusal;
 
 // What a step leads to, and what a child is.
-#[derive(Clone, Copy)]
+#[derive(Clone, Copy, Debug, PartialEq, Eq)]
 pub enum Kind {
     Router,
     Host,
 }
 
-#[derive(Clone, Copy)]
+#[derive(Clone, Copy, Debug, PartialEq, Eq)]
 pub struct Address {
     pub number: u64,
-}
-
-// What making an address from a number answers.
-#[derive(Clone, Copy)]
-pub enum Made {
-    Valid(Address),
-    Refused(u8),
 }
 
 impl Address {
@@ -36,7 +28,7 @@ impl Address {
 
     pub const ROOT: Address = Address { number: 1 };
 
-    // The number as it stands: zero, which is no address, stays zero, for the entries that refuse it and for the answers beside a refusal.
+    // The number as it stands: zero, which is no address, stays zero, for the entries that refuse it and for what C is answered beside a refusal.
     pub fn of(number: u64) -> Address
         ensures { result.number ≡ number }
     {
@@ -44,13 +36,14 @@ impl Address {
     }
 
     // The address that a number holds. Zero is refused.
-    pub fn new(number: u64) -> Made
+    #[tactic(auto, unfolding(crate::specs::Address::made))]
+    pub fn new(number: u64) -> Result<Address, Refusal>
         ensures { made_answer result ≡ made number }
     {
         if number == 0 {
-            return Made::Refused(ZERO_ADDRESS);
+            return Err(Refusal::ZeroAddress);
         }
-        Made::Valid(Address::of(number))
+        Ok(Address::of(number))
     }
 
     // These two tie the constants, which have no name in the definitions, to the specification's.

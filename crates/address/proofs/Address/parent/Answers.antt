@@ -1,19 +1,13 @@
 -- `Address::parent` meets its contract: half of the number without the ones at its end is the parent, and in place of 0 the root.
 use mathlib.Core.Path.{sym, ◌∙◌}
-use Prim.Native.Nat.{◌/◌, ◌+◌}
+use Prim.Native.Nat.{◌/◌}
 use borrow.Author.Tests.{eq-eqb, ne_eqb}
 use native.Mathlib.Omega.{arith}
-use Rattle.address.proofs.Answers.{trailing_zeros-lt, kept, parent-kept, parent-small}
+use Rattle.address.proofs.Answers.{kept, parent-kept, parent-small}
 use Rattle.address.proofs.Address.parent.Goals as goal
 
 pub returns-then-self-le1 : goal.returns-then-self-le1
 returns-then-self-le1 c = c.of.ensures ∙ sym (parent-small (omega arith))
-
-pub overflow_shr-kept : goal.overflow_shr-kept
-overflow_shr-kept c = trailing_zeros-lt 64 _ (omega arith) (omega arith)
-
-pub overflow_cast-kept : goal.overflow_cast-kept
-overflow_cast-kept c = omega (arith, trailing_zeros-lt 64 (c.args.self.number / 2 + 1) (omega arith) (omega arith))
 
 pub returns-then-kept-eq0 : goal.returns-then-kept-eq0
 returns-then-kept-eq0 c =
