@@ -11,11 +11,14 @@ use borrow.Author.Tests.{eq-eqb, ne_eqb, lt-ltb, le-ltb}
 use lib.Dec.{lit<}
 use lib.ListN.{length, take, drop, get_or, length-append}
 use lib.Seq.{take-append-le}
+use Rattle.refusal.specs.declared.Refusal.{Refusal}
+use Rattle.refusal.specs.Refusal.{number_of}
+use Rattle.refusal.proofs.Numbers.{some}
 use Rattle.octets.specs.Octets.{value}
 use Rattle.header.specs.Header.{HeaderAnswer, octets_reading, reading, with_payload, least_payload, refused_header, found, start_fault, in_order, critical_pattern, address_fault, zero_fault, size_told, address_octets, fixed_octets}
-use Rattle.header.proofs.Start.{start_fault-zero}
+use Rattle.header.proofs.Start.{start_fault-zero, start_fault-length}
 use Rattle.header.proofs.Parts.{first-address_octets, address_fault-long, address_fault-zero}
-use Rattle.header.proofs.Cases.{octets_reading-found, octets_reading-cases, octets_reading_inverse}
+use Rattle.header.proofs.Cases.{octets_reading-start, octets_reading-address, octets_reading-found, octets_reading-cases, octets_reading_inverse}
 
 -- ---- case by case
 
@@ -159,3 +162,22 @@ module _ (p : List ℕ) (e : (octets_reading p).refusal ≡ 0) where
 
   pub accepted_more : (o : ℕ) → reading (p ++ (o ∷ [])) ≡ octets_reading p
   accepted_more o = reading-longer p (o ∷ []) answer (lit< tt) ∙ sym answer
+
+-- ---- what reading comes to, check by check
+
+module _ (p : List ℕ) where
+  pub start_refused : (r : Refusal) → number_of r ≡ start_fault p → refused_header (number_of r) ≡ reading p
+  start_refused r e = sym (reading-unread p (sym (octets_reading-start p e (some r))) (some r))
+
+  module _ (begun : 0 ≡ start_fault p) where
+    pub second_there : 1 < length p
+    second_there = omega (arith, start_fault-length p (sym begun))
+
+    pub address_refused : (r : Refusal) → number_of r ≡ address_fault (size_told p) p → refused_header (number_of r) ≡ reading p
+    address_refused r e = sym (reading-unread p (sym (octets_reading-address p (sym begun) e (some r))) (some r))
+
+    module _ (whole : 0 ≡ address_fault (size_told p) p) where
+      pub payload_refused : length p < fixed_octets + size_told p + least_payload → refused_header 16 ≡ reading p
+      payload_refused h = sym (reading-empty p (octets_reading-found p (sym begun) (sym whole)) (omega arith))
+
+pub ruleset read_cases = (start_refused, second_there, address_refused, payload_refused)

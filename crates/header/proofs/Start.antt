@@ -7,7 +7,7 @@ use Prim.Native.Nat.{ℕ, suc, ◌/◌, ◌≤◌, ◌<◌}
 use lib.ListN.{length, drop, get_or, drop_of_length-le}
 use lib.Seq.{drop-cons}
 use lib.Dec.{eqb, lit≤}
-use borrow.Author.Tests.{eq-eqb, eqb-true}
+use borrow.Author.Tests.{eq-eqb, ne_eqb, eqb-true}
 use native.Mathlib.Omega.{arith}
 use Rattle.address.proofs.ChoiceLaws.{else_zero}
 use Rattle.header.specs.Header.{in_order, start_fault, fixed_octets, page_octet, critical_pattern, routing_type, is_page_octet, has_critical_pattern, is_routing_type}
@@ -68,3 +68,34 @@ start_fault-zero (a ∷ b ∷ c ∷ rest) e =
 
 pub start_fault-length : (p : List ℕ) → start_fault p ≡ 0 → fixed_octets ≤ length p
 start_fault-length p e = omega (arith, ap length (start_fault-zero p e).2)
+
+-- ---- the checks one after the other: the first that an octet does not pass decides
+
+module _ (p : List ℕ) where
+  pub first-absent : length p ≤ 0 → start_fault p ≡ 4
+  unfolding start_fault
+  first-absent h = in_order-absent is_page_octet (has_critical_pattern ∷ is_routing_type ∷ []) p 0 h
+
+  pub first_wrong : 0 < length p → (get_or p 0 0 ≡ page_octet → ⊥) → start_fault p ≡ 5
+  unfolding start_fault
+  first_wrong h n = in_order_wrong is_page_octet (has_critical_pattern ∷ is_routing_type ∷ []) p 0 h (ne_eqb _ _ n)
+
+  module _ (first : 0 < length p) (page : get_or p 0 0 ≡ page_octet) where
+    pub second-absent : length p ≤ 1 → start_fault p ≡ 4
+    second-absent h = start_fault_page p first page ∙ in_order-absent has_critical_pattern (is_routing_type ∷ []) p 1 h
+
+    pub second_wrong : 1 < length p → (get_or p 1 0 / 32 ≡ critical_pattern → ⊥) → start_fault p ≡ 5
+    second_wrong h n = start_fault_page p first page ∙ in_order_wrong has_critical_pattern (is_routing_type ∷ []) p 1 h (ne_eqb _ _ n)
+
+    module _ (second : 1 < length p) (critical : get_or p 1 0 / 32 ≡ critical_pattern) where
+      pub third-absent : length p ≤ 2 → start_fault p ≡ 4
+      third-absent h = start_fault_critical p second page critical ∙ in_order-absent is_routing_type [] p 2 h
+
+      pub third_wrong : 2 < length p → (get_or p 2 0 ≡ routing_type → ⊥) → start_fault p ≡ 5
+      third_wrong h n = start_fault_critical p second page critical ∙ in_order_wrong is_routing_type [] p 2 h (ne_eqb _ _ n)
+
+      pub all-right : 2 < length p → get_or p 2 0 ≡ routing_type → start_fault p ≡ 0
+      unfolding in_order
+      all-right h e = start_fault_critical p second page critical ∙ in_order-right is_routing_type [] p 2 h (eq-eqb _ _ e)
+
+pub ruleset start_cases = (first-absent, first_wrong, second-absent, second_wrong, third-absent, third_wrong, all-right)

@@ -2,14 +2,17 @@
 -- nothing.
 use mathlib.Core.Path.{◌≡◌, sym, ap, ◌∙◌}
 use mathlib.Core.List.{List, [], ◌∷◌, ◌++◌}
-use Prim.Native.Nat.{ℕ, suc, ◌+◌, ◌-◌, ◌*◌, ◌≤◌, ◌<◌}
-use native.Mathlib.Nat.{add-sub_cancel_left}
+use Prim.Native.Nat.{ℕ, suc, ◌+◌, ◌-◌, ◌*◌, ◌^◌, ◌≤◌, ◌<◌}
+use native.Mathlib.Nat.{add-sub_cancel_left, pos_of_ne-zero}
 use native.Mathlib.Omega.{arith}
 use borrow.Author.Tests.{eq-eqb, ne_eqb, lt-ltb, le-ltb}
 use borrow.Rule.Slice.PartMut.{put_mid}
 use lib.ListN.{length, drop, set}
+use Rattle.address.specs.Bits.{longest}
+use Rattle.address.specs.Numbers.{IsAddress}
 use Rattle.octets.specs.Octets.{octets, refuse_writing, write}
 use Rattle.octets.proofs.OctetLaws.{length-octets}
+use Rattle.header.proofs.Size.{size-le, size_ge}
 use Rattle.header.specs.Header.{header, place, size, writing, fixed_octets, page_octet, critical_pattern, routing_type}
 
 pub length-header : (a : ℕ) → length (header a) ≡ place a
@@ -46,3 +49,16 @@ framed-header out os a s e f h =
     ∙ ap (λ (l : List ℕ). (page_octet ∷ (critical_pattern * 32 + (s - 1)) ∷ routing_type ∷ l) ++ drop (fixed_octets + s) out) f
     ∙ ap (λ (k : ℕ). (page_octet ∷ (critical_pattern * 32 + (k - 1)) ∷ routing_type ∷ octets k a) ++ drop (fixed_octets + k) out) e
     ∙ ap (λ (k : ℕ). header a ++ drop k out) (sym (length-header a))
+
+-- the octets that an address takes that is not zero
+module _ {a s : ℕ} (some : a ≡ 0 → ⊥) (fits : a < 2 ^ longest) (e : s ≡ size a) where
+  is : IsAddress a
+  is = record { some = pos_of_ne-zero {n = a} some; fits = fits }
+
+  pub octets-least : 1 ≤ s
+  octets-least = omega (arith, e, size_ge is)
+
+  pub octets_most : s ≤ 8
+  octets_most = omega (arith, e, size-le fits)
+
+pub ruleset write_cases = (octets-least, octets_most)

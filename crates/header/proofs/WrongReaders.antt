@@ -10,7 +10,7 @@ use Prim.Native.Nat.{ℕ}
 use native.Mathlib.Omega.{arith}
 use lib.Dec.{lit<, lit≤}
 use lib.ListN.{replicate}
-use Rattle.octets.specs.declared.Written.{Written}
+use Rattle.octets.specs.Octets.{Written}
 use Rattle.address.specs.Bits.{bits, bits_in}
 use Rattle.address.specs.Address.{bit_length}
 use Rattle.octets.specs.Octets.{AreOctets, octets, write}

@@ -4,8 +4,10 @@
 use Rattle.std.specs.Prelude.{ℕ, ◌+◌, ◌*◌, ◌-◌, ◌/◌, ◌%◌, ◌≤◌, Bool, not, List, [], ◌∷◌, length, take, drop, get_or, eqb, ltb, if◌then◌else◌}
 use Rattle.address.specs.Address.{bit_length}
 use Rattle.octets.specs.Octets.{octets, value, WriteEffect, refuse_writing, write}
-pub use Rattle.header.specs.declared.Reading.{Reading}
-pub use Rattle.header.specs.declared.Reading.TheVariants.{Found, Refused}
+use Rattle.std.specs.Prelude.{Result, Ok, Err}
+use Rattle.refusal.specs.declared.Refusal.{Refusal}
+use Rattle.refusal.specs.Refusal.{number_of}
+pub use Rattle.header.specs.declared.Header.{Header}
 
 -- ---- how many octets an address takes
 
@@ -70,9 +72,9 @@ abbrev pub refused_header : ℕ → HeaderAnswer
 refused_header n = record { refusal = n; address = 0; place = 0 }
 
 -- the document's number and values for each case of the answer
-unfoldable pub header_answer : Reading → HeaderAnswer
-header_answer (Found a k) = found a.number k
-header_answer (Refused n) = refused_header n
+abbrev pub header_answer : Result Header Refusal → HeaderAnswer
+header_answer (Ok h) = found h.address.number h.place
+header_answer (Err r) = refused_header (number_of r)
 
 -- "the first three octets are checked in order; one that is absent is 4, one that is wrong is 5": 0 where none is
 unfoldable pub in_order : List (ℕ → Bool) → List ℕ → ℕ

@@ -1,23 +1,14 @@
 // The packet header: what the octets are, in which order they are checked and what each fault is numbered, stands in specs/Header.antt.
 #![tactic(auto)]
 
-ghost use Rattle.std.specs.Prelude.{◌≡◌, ◌≤◌};
+ghost use Rattle.std.specs.Prelude.{◌≡◌, ◌≤◌, ◌<◌, IfOk, IfErr, length, slice_index};
+ghost use Rattle.refusal.specs.declared.Refusal.TheVariants.{EndsEarly};
+ghost use Rattle.refusal.specs.Outcome.{outcome_number};
+ghost use Rattle.octets.specs.Octets.{written_answer};
 ghost use Rattle.header.specs.Header.{size, writing, header_answer, reading, start_fault, zero_fault, address_fault};
 
 use address::Address;
-use octets::Written;
-
-// Refusals: "the packet ends too early", "one of the first three octets is wrong", "a size above 8 or a first octet of zero where there are
-// several", "lent output too short", "A packet whose payload is empty".
-pub const ENDS_EARLY: u8 = 4;
-
-pub const WRONG_START: u8 = 5;
-
-pub const WRONG_SIZE: u8 = 6;
-
-pub const NO_ROOM: u8 = 10;
-
-pub const EMPTY: u8 = 16;
+use refusal::Refusal;
 
 const PAGE_OCTET: u8 = 0xF1;
 
@@ -31,119 +22,109 @@ const MOST_OCTETS: usize = 8;
 
 const LEAST_PAYLOAD: usize = 1;
 
-// What reading a header answers: the address and the place where the payload begins, or a refusal.
-#[derive(Clone, Copy)]
-pub enum Reading {
-    Found(Address, usize),
-    Refused(u8),
+// What a header says: the address, and the place where the payload begins.
+#[derive(Clone, Copy, Debug, PartialEq, Eq)]
+pub struct Header {
+    pub address: Address,
+    pub place: usize,
 }
 
 // How many octets the address takes.
+#[tactic(auto, unfolding(crate::specs::Header::size))]
 fn size_of(address: Address) -> usize
     ensures { result ≡ size address.number }
 {
-    (address.bit_length() as usize + 7) / 8
+    address.bit_length().div_ceil(8) as usize
 }
 
 // Writes the address's header to the front of the lent buffer.
-pub fn write(address: Address, out: &mut [u8]) -> Written
-    ensures { (result ≡ (writing address.number out.old).answer) × (out.new ≡ (writing address.number out.old).buffer) }
+#[tactic(auto, using(crate::proofs::Writing::write_cases), unfolding(crate::specs::Header::writing, crate::specs::Header::place, octets::specs::Octets::refuse_writing))]
+pub fn write(address: Address, out: &mut [u8]) -> Result<usize, Refusal>
+    ensures answer { written_answer result ≡ (writing address.number out.old).answer }
+    ensures buffer { out.new ≡ (writing address.number out.old).buffer }
 {
     if address.number == 0 {
-        return Written {
-            refusal: address::ZERO_ADDRESS,
-            count: 0,
-        };
+        return Err(Refusal::ZeroAddress);
     }
     let size = size_of(address);
     let end = FIXED_OCTETS + size;
     if out.len() < end {
-        return Written {
-            refusal: NO_ROOM,
-            count: 0,
-        };
+        return Err(Refusal::NoRoom);
     }
     out[0] = PAGE_OCTET;
     out[1] = CRITICAL_PATTERN * 32 + (size - 1) as u8;
     out[2] = ROUTING_TYPE;
     octets::put(address.number, &mut out[FIXED_OCTETS..end]);
-    Written {
-        refusal: 0,
-        count: end,
-    }
+    Ok(end)
 }
 
-// The fault of the first three octets, 0 where there is none.
-fn start_fault(packet: &[u8]) -> u8
-    ensures { result ≡ start_fault packet.now }
+// The octet at a place: a packet that ends before it ends too early.
+fn octet_at(packet: &[u8], place: usize) -> Result<u8, Refusal>
+    ensures there { IfOk result (λ octet. (place < length packet.now) × (octet ≡ slice_index packet.now place)) }
+    ensures absent { IfErr result (λ refusal. (length packet.now ≤ place) × (refusal ≡ EndsEarly)) }
 {
-    if packet.len() <= 0 {
-        return ENDS_EARLY;
-    }
-    if packet[0] != PAGE_OCTET {
-        return WRONG_START;
-    }
-    if packet.len() <= 1 {
-        return ENDS_EARLY;
-    }
-    if packet[1] / 32 != CRITICAL_PATTERN {
-        return WRONG_START;
-    }
-    if packet.len() <= 2 {
-        return ENDS_EARLY;
-    }
-    if packet[2] != ROUTING_TYPE {
-        return WRONG_START;
-    }
-    0
+    packet.get(place).copied().ok_or(Refusal::EndsEarly)
 }
 
-// The fault of an address in so many octets, by the first of them: the address is zero, or fewer octets hold it. 0 where there is none.
-#[tactic(auto, using(crate::proofs::Parts::fault_cases))]
-fn zero_fault(size: usize, first: u8) -> u8
-    ensures { result ≡ zero_fault size first }
+// Checks the first three octets, one after the other.
+#[tactic(auto, using(crate::proofs::Start::start_cases))]
+fn check_start(packet: &[u8]) -> Result<(), Refusal>
+    ensures { outcome_number result ≡ start_fault packet.now }
 {
-    if first != 0 {
-        return 0;
+    if octet_at(packet, 0)? != PAGE_OCTET {
+        return Err(Refusal::WrongStart);
     }
-    if size == 1 {
-        return address::ZERO_ADDRESS;
+    if octet_at(packet, 1)? / 32 != CRITICAL_PATTERN {
+        return Err(Refusal::WrongStart);
     }
-    WRONG_SIZE
+    if octet_at(packet, 2)? != ROUTING_TYPE {
+        return Err(Refusal::WrongStart);
+    }
+    Ok(())
 }
 
-// The fault of what follows the first three octets, where the second tells this size; 0 where there is none.
+// Checks an address in so many octets by the first of them: where that is zero the address is, or fewer octets hold it.
 #[tactic(auto, using(crate::proofs::Parts::fault_cases))]
-fn address_fault(packet: &[u8], size: usize) -> u8
+fn check_first(size: usize, first: u8) -> Result<(), Refusal>
+    ensures { outcome_number result ≡ zero_fault size first }
+{
+    match (first, size) {
+        (0, 1) => Err(Refusal::ZeroAddress),
+        (0, _) => Err(Refusal::WrongSize),
+        _ => Ok(()),
+    }
+}
+
+// Checks what follows the first three octets, where the second tells this size.
+#[tactic(auto, using(crate::proofs::Parts::fault_cases))]
+fn check_address(packet: &[u8], size: usize) -> Result<(), Refusal>
     requires { 1 ≤ size }
-    ensures { result ≡ address_fault size packet.now }
+    ensures { outcome_number result ≡ address_fault size packet.now }
 {
     if MOST_OCTETS < size {
-        return WRONG_SIZE;
+        return Err(Refusal::WrongSize);
     }
     if packet.len() < FIXED_OCTETS + size {
-        return ENDS_EARLY;
+        return Err(Refusal::EndsEarly);
     }
-    zero_fault(size, packet[FIXED_OCTETS])
+    check_first(size, packet[FIXED_OCTETS])
 }
 
 // Reads the header at the front of a packet; an empty payload behind it is a fault, looked for after every other.
-pub fn read(packet: &[u8]) -> Reading
+#[tactic(auto, using(crate::proofs::Payload::read_cases), unfolding(crate::specs::Header::size_told))]
+pub fn read(packet: &[u8]) -> Result<Header, Refusal>
     ensures { header_answer result ≡ reading packet.now }
 {
-    let wrong_start = start_fault(packet);
-    if wrong_start != 0 {
-        return Reading::Refused(wrong_start);
-    }
+    check_start(packet)?;
     let size = packet[1] as usize % 32 + 1;
-    let wrong_address = address_fault(packet, size);
-    if wrong_address != 0 {
-        return Reading::Refused(wrong_address);
-    }
+    check_address(packet, size)?;
     let end = FIXED_OCTETS + size;
     if packet.len() < end + LEAST_PAYLOAD {
-        return Reading::Refused(EMPTY);
+        return Err(Refusal::EmptyPayload);
     }
     let number = octets::get(&packet[FIXED_OCTETS..end]);
-    Reading::Found(Address::of(number), end)
+    Ok(Header {
+        address: Address::of(number),
+        place: end,
+    })
 }
