@@ -15,7 +15,7 @@ use Rattle.address.specs.Bits.{longest}
 use Rattle.address.specs.Numbers.{IsAddress}
 use Rattle.address.specs.Address.{valid_address, made}
 use Rattle.octets.specs.Octets.{octets, value, AreOctets, WriteEffect, wrote, write}
-use Rattle.octets.specs.declared.Written.{Written}
+use Rattle.octets.specs.Octets.{Written}
 use Rattle.address.proofs.Decided.{holds}
 use Rattle.octets.proofs.OctetLaws.{octets-value, value-octets_of_lt, value-fits, drop-octets}
 use Rattle.ipv6.specs.Form.{half, whole, form, form_writing, form_reading}

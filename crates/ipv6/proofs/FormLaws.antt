@@ -63,6 +63,8 @@ module _ (prefix ipv6 : List ℕ) where
   unfolding made
   form_reading-some l m e some = form_reading_same l m e ∙ rw (ne_eqb (value (drop half ipv6)) 0 some)
 
+pub ruleset reading_cases = (form_reading_prefix, form_reading-length, form_reading_other)
+
 -- ---- which case an answer came from
 
 -- a choice between a refusal and what the next check says is an address only by the next check

@@ -10,7 +10,7 @@ use lib.ListN.{get_or, replicate}
 use Rattle.address.specs.Numbers.{IsAddress}
 use Rattle.address.specs.Address.{AddressAnswer}
 use Rattle.octets.specs.Octets.{octets, value, joined, same, refuse_writing, write}
-use Rattle.octets.specs.declared.Written.{Written}
+use Rattle.octets.specs.Octets.{Written}
 use Rattle.ipv6.specs.Form.{half, whole, form, form_writing, form_reading}
 use Rattle.ipv6.specs.RoundTrip.{FormRoundTrip}
 use Rattle.ipv6.specs.WrongWriters.{silent_form_writer, refusing_form_writer, short_prefix_writer, roomless_form_writer, spoiling_form_writer}
