@@ -115,3 +115,13 @@ module _ (p : List ℕ) where
     address_reading-counted h =
         let l : 253 ≤ get_or p 0 0 = omega arith in
         rw (le-ltb (length p) 1 some, ne_eqb (get_or p 0 0) 0 (λ z. omega arith), le-ltb (get_or p 0 0) 253 l, ne_eqb (get_or p 0 0) 253 (λ z. omega arith), ne_eqb (get_or p 0 0) 254 (λ z. omega arith))
+
+-- ---- the cases of each, for the functions that read them
+
+pub ruleset number_cases = (number_reading-missing, number_reading-low, number_reading-found)
+
+pub ruleset length_cases = (length_reading-absent, length_reading_alone, length_reading-one, length_reading_two, length_reading_reserved)
+
+pub ruleset counted_cases = (counted_reading-absent, counted_reading-few, counted_reading-many, counted_reading-right)
+
+pub ruleset address_cases = (address_reading-absent, address_reading-zero, address_reading_alone, address_reading_two, address_reading_four, address_reading-counted)

@@ -11,14 +11,14 @@ use lib.Seq.{take_at, take-add, drop_at, length-take-le}
 use Rattle.address.specs.Bits.{longest}
 use Rattle.address.specs.Order.{First}
 use Rattle.address.specs.Numbers.{IsAddress}
-use Rattle.octets.specs.declared.Written.{Written}
+use Rattle.octets.specs.Octets.{Written}
 use Rattle.octets.specs.Octets.{AreOctets, WriteEffect, write, wrote}
 use Rattle.octets.proofs.OctetLaws.{drop-octets}
 use Rattle.nsa.specs.Fields.{length_field, address_field, fields, longest_payload, writing, Field, field, length_reading, FieldsAnswer, found, source_reading, destination_reading, reading}
 use Rattle.nsa.specs.RoundTrip.{FieldsRoundTrip}
 use Rattle.nsa.specs.Refusals.{fields_writing_order}
 use Rattle.nsa.proofs.Writing.{length_fields, writing-done}
-use Rattle.nsa.proofs.Row.{reading-found, reading-right, destination-within, source-behind, destination-behind}
+use Rattle.nsa.proofs.InRow.{reading-found, reading-right, destination-within, source-behind, destination-behind}
 use Rattle.nsa.proofs.BackAndForth.{length-put, address-put, length-read, address_read}
 use Rattle.nsa.proofs.WriteRefusals.{fields-write-refusals}
 

@@ -1,7 +1,8 @@
 -- The laws of the nsa crate.
 pub mod Writing
+pub mod Layouts
 pub mod Cases
-pub mod Row
+pub mod InRow
 pub mod BackAndForth
 pub mod WriteRefusals
 pub mod Demand2

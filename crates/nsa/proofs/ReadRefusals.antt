@@ -20,7 +20,7 @@ use Rattle.nsa.specs.Fields.{length_field, address_field, fields, Field, number_
 use Rattle.nsa.specs.Refusals.{octet_at, told, length_field_order, length_end, address_field_order, address_end, behind_length, behind_source, fields_reading_order, AcceptedFields, FieldsReadRefusals}
 use Rattle.nsa.proofs.Writing.{length_fields}
 use Rattle.nsa.proofs.Cases.{refusal, number_reading-missing, number_reading-low, number_reading-found, length_reading-absent, length_reading_alone, length_reading-one, length_reading_two, length_reading_reserved, counted_reading-absent, counted_reading-few, counted_reading-many, counted_reading-right, address_reading-absent, address_reading-zero, address_reading_alone, address_reading_two, address_reading_four, address_reading-counted}
-use Rattle.nsa.proofs.Row.{reading-length, reading-source, reading-destination, reading-found}
+use Rattle.nsa.proofs.InRow.{reading-length, reading-source, reading-destination, reading-found}
 use Rattle.nsa.proofs.BackAndForth.{length-read, address_read}
 use Rattle.nsa.proofs.Demand2.{fields_read}
 use Rattle.nsa.proofs.Forms.{length-form, address-form, length-form-end, address-form-end}

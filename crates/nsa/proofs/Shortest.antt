@@ -13,7 +13,7 @@ use Rattle.nsa.specs.Forms.{LengthForm, length_alone, length_one, length_two, Ad
 use Rattle.nsa.specs.Shortest.{OtherwiseSix}
 use Rattle.nsa.proofs.Writing.{length_field_alone, address_field_alone, address_field-counted}
 use Rattle.nsa.proofs.Cases.{refusal, cut_out, number_reading-low, length_reading-one, length_reading_two, counted_reading-few, counted_reading-many, counted_reading-right, address_reading_two, address_reading_four, address_reading-counted}
-use Rattle.nsa.proofs.Row.{reading-length, reading-source, reading-destination, source-behind, destination-behind}
+use Rattle.nsa.proofs.InRow.{reading-length, reading-source, reading-destination, source-behind, destination-behind}
 use Rattle.nsa.proofs.BackAndForth.{octets-held, length-put, address-put, long_exact}
 use Rattle.nsa.proofs.Forms.{one-ours, two_ours, two_address-ours, four_address-ours}
 

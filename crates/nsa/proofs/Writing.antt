@@ -71,13 +71,10 @@ module _ (a : ℕ) where
       go (no five) (no six) (yes h) = omega (arith, long_octets_seven (omega arith) h)
       go (no five) (no six) (no seven) = omega (arith, long_octets_eight (omega arith))
 
--- how long a field is that is one octet and k behind it, and that the octets behind it are as many as its length leaves
+-- how long a field is that is one octet and k behind it
 module _ {f : List ℕ} (o k n : ℕ) (e : f ≡ o ∷ octets k n) where
   pub length-behind : length f ≡ suc k
   length-behind = ap length e ∙ ap suc (length-octets k n)
-
-  pub refill : o ∷ octets (length f - 1) n ≡ f
-  refill = let m : length f - 1 ≡ k = omega (arith, length-behind) in ap (λ (j : ℕ). o ∷ octets j n) m ∙ sym e
 
 -- how many octets a field takes: at least one, and at most three and ten
 pub length-length_field : (n : ℕ) → (1 ≤ length (length_field n)) × (length (length_field n) ≤ 3)
@@ -99,12 +96,6 @@ length-address_field a = go (dec_lt a 253) (dec_lt a (256 ^ 2)) (dec_lt a (256 ^
     go (no l) (yes h) four = omega (arith, length-behind 253 2 a (address_field_two a (omega arith) h))
     go (no l) (no m) (yes h) = omega (arith, length-behind 254 4 a (address_field_four a (omega arith) h))
     go (no l) (no m) (no n) = omega (arith, length-counted a (omega arith), long_octets_bounds a)
-
--- a slice of one octet with that stored
-pub stored : (out : List ℕ) (o : ℕ) {f : List ℕ} → f ≡ o ∷ [] → length out ≡ length f → set out 0 o ≡ f
-stored [] o e h = absurd (omega (arith, ap length e))
-stored (x ∷ []) o e h = sym e
-stored (x ∷ y ∷ out) o e h = absurd (omega (arith, ap length e))
 
 -- the buffer with its first octet stored, and the others put behind it
 pub framed : (out os : List ℕ) (o k : ℕ) → k ≡ length out → 1 ≤ k → put_mid 1 (k - 1) (set out 0 o) os ≡ o ∷ os
@@ -132,13 +123,11 @@ length_fields l s d = length-append (length_field l) (address_field s ++ address
 
 -- the buffer with three parts put one behind the other
 pub put_three : (out xs ys zs : List ℕ) (k m n : ℕ) → length xs ≡ k → length ys ≡ m → length zs ≡ n
-    → put_mid (k + m) (k + m + n - (k + m)) (put_mid k (k + m - k) (put_mid 0 (k - 0) out xs) ys) zs ≡ (write (xs ++ (ys ++ zs)) out).buffer
+    → put_mid (k + m) (k + m + n - (k + m)) (put_mid k (k + m - k) (xs ++ drop k out) ys) zs ≡ (write (xs ++ (ys ++ zs)) out).buffer
 unfolding write
 put_three out xs ys zs k m n e f g =
-    let begun : k - 0 ≡ k = omega arith in
     let end : k + m + n ≡ length (xs ++ (ys ++ zs)) = omega (arith, length-append xs (ys ++ zs), length-append ys zs) in
-    ap (λ (j : ℕ). put_mid (k + m) (k + m + n - (k + m)) (put_mid k (k + m - k) (xs ++ drop j out) ys) zs) begun
-    ∙ ap (λ (l : List ℕ). put_mid (k + m) (k + m + n - (k + m)) l zs) (put_next out xs ys k m e f)
+    ap (λ (l : List ℕ). put_mid (k + m) (k + m + n - (k + m)) l zs) (put_next out xs ys k m e f)
     ∙ put_next out (xs ++ ys) zs (k + m) n (length-append xs ys ∙ ap₂ ◌+◌ e f) g
     ∙ ap₂ (λ (all : List ℕ) (j : ℕ). all ++ drop j out) (append_assoc xs ys zs) end
 

@@ -8,7 +8,7 @@ use Prim.Native.Nat.{ℕ}
 use native.Mathlib.Omega.{arith}
 use lib.Dec.{lit<, lit≤}
 use lib.ListN.{replicate}
-use Rattle.octets.specs.declared.Written.{Written}
+use Rattle.octets.specs.Octets.{Written}
 use Rattle.octets.specs.Octets.{AreOctets, value, joined, octets, write}
 use Rattle.nsa.specs.Fields.{length_field, address_field, fields, writing, FieldsAnswer, number_reading, length_reading, counted_reading, address_reading, source_reading, destination_reading, reading}
 use Rattle.nsa.specs.RoundTrip.{FieldsRoundTrip}

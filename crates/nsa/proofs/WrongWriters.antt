@@ -7,7 +7,7 @@ use Prim.Native.Nat.{ℕ}
 use native.Mathlib.Omega.{arith}
 use lib.Dec.{lit<, lit≤}
 use lib.ListN.{get_or, replicate}
-use Rattle.octets.specs.declared.Written.{Written}
+use Rattle.octets.specs.Octets.{Written}
 use Rattle.address.specs.Numbers.{IsAddress}
 use Rattle.octets.specs.Octets.{octets, WriteEffect, refuse_writing, write}
 use Rattle.nsa.specs.Fields.{length_field, address_field, fields, writing, FieldsAnswer, length_reading, address_reading, source_reading, reading}

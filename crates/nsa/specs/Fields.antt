@@ -2,9 +2,11 @@
 -- payload length, source, destination." "Numbers stand high octet first."
 use Rattle.std.specs.Prelude.{ℕ, ◌+◌, ◌*◌, ◌-◌, ◌^◌, not, List, [], ◌∷◌, ◌++◌, length, take, drop, get_or, eqb, ltb, if◌then◌else◌}
 use Rattle.octets.specs.Octets.{octets, value, WriteEffect, refuse_writing, write}
-pub use Rattle.nsa.specs.declared.Field.{Field}
-pub use Rattle.nsa.specs.declared.Reading.{Reading}
-pub use Rattle.nsa.specs.declared.Reading.TheVariants.{Found, Refused}
+use Rattle.std.specs.Prelude.{Result, Ok, Err}
+use Rattle.refusal.specs.declared.Refusal.{Refusal}
+use Rattle.refusal.specs.Refusal.{number_of}
+use Rattle.nsa.specs.declared.Part.{Part}
+pub use Rattle.nsa.specs.declared.Row.{Row}
 
 -- ---- the fields
 
@@ -52,11 +54,22 @@ writing l s d buffer =
 
 -- ---- reading a field, from its first octet on, whatever is behind it
 
+-- what reading one field says: a refusal's number, 0 where it is done; the number read and how many octets it took, both 0 in a refusal
+pub record Field : Type 0 where
+  pub refusal : ℕ
+  pub number : ℕ
+  pub size : ℕ
+
 abbrev pub field : ℕ → ℕ → Field
 field n k = record { refusal = 0; number = n; size = k }
 
 abbrev pub refused_field : ℕ → Field
 refused_field r = record { refusal = r; number = 0; size = 0 }
+
+-- the document's number and values for each case of the answer
+abbrev pub field_answer : Result Part Refusal → Field
+field_answer (Ok p) = field p.number p.size
+field_answer (Err r) = refused_field (number_of r)
 
 -- the number in `count` octets behind the first `before` of a field, with so much added: "a missing octet is 4 and comes before any judgement of
 -- the value"; "Only the shortest form is accepted: otherwise 6": below `least` there is a shorter one
@@ -111,9 +124,9 @@ abbrev pub refused_fields : ℕ → FieldsAnswer
 refused_fields n = record { refusal = n; length = 0; source = 0; destination = 0; place = 0 }
 
 -- the document's number and values for each case of the answer
-unfoldable pub fields_answer : Reading → FieldsAnswer
-fields_answer (Found f k) = found f.length f.source.number f.destination.number k
-fields_answer (Refused n) = refused_fields n
+abbrev pub fields_answer : Result Row Refusal → FieldsAnswer
+fields_answer (Ok row) = found row.fields.length row.fields.source.number row.fields.destination.number row.place
+fields_answer (Err r) = refused_fields (number_of r)
 
 unfoldable pub source_reading : List ℕ → Field
 source_reading p = address_reading (drop (length_reading p).size p)

@@ -1,5 +1,5 @@
 -- `nsa::put_behind` meets its contract: the first octet is stored, and those behind it are put. Assumes nothing.
-use Rattle.std.proofs.Common.{refl, ap, ◌∙◌, ℕ, List, ◌∷◌, length, arith, length-set}
+use Rattle.std.proofs.Common.{◌≡◌, ap, ◌∙◌, ℕ, ◌-◌, List, ◌∷◌, length, arith, length-set}
 use lib.ListN.{set}
 use borrow.Rule.Slice.PartMut.{mid_len}
 use Rattle.octets.specs.Octets.{octets}
@@ -10,7 +10,7 @@ pub returns : goal.returns
 returns c =
     let at = c.args in
     let out = at.out.now in
-    let end = length out in
-    let many = mid_len 1 end (set out 0 at.first) (simp length-set (omega arith)) in
-    framed out c.put.new.out at.first end refl c.requires
-    ∙ ap (λ (os : List ℕ). at.first ∷ os) (c.put.ensures ∙ ap (λ (k : ℕ). octets k at.number) many)
+    let same : length (set out 0 at.first) ≡ length out = simp length-set in
+    let many = mid_len 1 (length (set out 0 at.first)) (set out 0 at.first) (omega arith) in
+    framed out c.put.new.out at.first (length (set out 0 at.first)) same (omega arith)
+    ∙ ap (λ (os : List ℕ). at.first ∷ os) (c.put.ensures ∙ ap (λ (k : ℕ). octets k at.number) (many ∙ ap (λ (k : ℕ). k - 1) same))

@@ -1,4 +1,4 @@
--- `nsa::read_counted` meets its contract: each return is one case of the definition by the tests on its way. Assumes nothing.
+-- `nsa::read_counted` meets its contract: a length of 5 to 8 gives the least number that takes so many octets. Assumes nothing.
 use Rattle.std.proofs.Common.{◌≡◌, sym, ap, ◌∙◌, ℕ, ◌+◌, ◌-◌, ◌*◌, ◌%◌, ◌^◌, ◌≤◌, get_or, arith, lit<}
 use native.Mathlib.Nat.{one-mul, pow-le-pow_right}
 use lib.Pow.{shl_exact}
@@ -6,15 +6,15 @@ use Rattle.nsa.specs.Fields.{number_reading}
 use Rattle.nsa.proofs.Cases.{counted_reading-right}
 use Rattle.nsa.proofs.read_counted.Goals as goal
 
-pub read_number-requires : goal.read_number-requires
-read_number-requires c =
+pub read_number-requires-clause-fits : goal.read_number-requires-clause-fits
+read_number-requires-clause-fits c =
     let n = get_or c.args.field.now 1 0 in
     let few : n ≤ 8 = omega arith in
     let most : 256 ^ n ≤ 2 ^ 64 = pow-le-pow_right (lit< tt) few in
     omega arith
 
-pub returns : goal.returns
-returns c =
+pub returns-in-5-to-8 : goal.returns-in-5-to-8
+returns-in-5-to-8 c =
     let p = c.args.field.now in
     let k = 8 * (get_or p 1 0 - 1) in
     let short : 1 + k ≤ 64 = omega arith in

@@ -7,9 +7,14 @@ use native.Mathlib.Omega.{arith}
 use borrow.Author.Tests.{eq-eqb, ne_eqb}
 use lib.ListN.{length, take, drop, get_or, length-drop}
 use lib.Seq.{take_all, drop-append_seam, drop-append-add}
-use Rattle.octets.specs.Octets.{value}
+use Rattle.std.proofs.Common.{Fits, w8}
+use Rattle.refusal.specs.declared.Refusal.{Refusal}
+use Rattle.refusal.specs.Refusal.{number_of}
+use Rattle.refusal.proofs.Numbers.{some}
+use Rattle.octets.specs.Octets.{value, AreOctets}
+use Rattle.octets.proofs.OctetLaws.{all_octets}
 use Rattle.nsa.specs.Fields.{Field, field, refused_field, number_reading, length_reading, counted_reading, address_reading, FieldsAnswer, found, refused_fields, source_reading, destination_reading, reading}
-use Rattle.nsa.proofs.Cases.{number_reading-missing, number_reading-low, number_reading-found, length_reading-absent, length_reading_alone, length_reading-one, length_reading_two, length_reading_reserved, counted_reading-absent, counted_reading-few, counted_reading-many, counted_reading-right, address_reading-absent, address_reading-zero, address_reading_alone, address_reading_two, address_reading_four, address_reading-counted}
+use Rattle.nsa.proofs.Cases.{refusal, number_reading-missing, number_reading-low, number_reading-found, length_reading-absent, length_reading_alone, length_reading-one, length_reading_two, length_reading_reserved, counted_reading-absent, counted_reading-few, counted_reading-many, counted_reading-right, address_reading-absent, address_reading-zero, address_reading_alone, address_reading_two, address_reading_four, address_reading-counted}
 
 -- ---- three in a row
 
@@ -130,13 +135,6 @@ reading-right p z = go (length_reading p).refusal refl (source_reading p).refusa
     go zero e zero f (suc n) g = refused n (reading-destination p e f (sym g) (λ z. omega arith))
     go zero e zero f zero g = (e, f, g)
 
--- a refusal's number is never 0, since the place after three fields is not
-pub reading-refused : (p : List ℕ) {n : ℕ} → reading p ≡ refused_fields n → n ≡ 0 → ⊥
-reading-refused p e z =
-    let (l, s, d) = reading-right p (ap (λ (x : FieldsAnswer). x.refusal) e ∙ z) in
-    let place = sym (ap (λ (x : FieldsAnswer). x.place) (reading-found p l s d)) ∙ ap (λ (x : FieldsAnswer). x.place) e in
-    omega (arith, place, (length-within p).2 l)
-
 -- behind a payload length that was read the source is read, and behind a source the destination
 pub source-behind : (f rest : List ℕ) {n : ℕ} → length_reading (f ++ rest) ≡ field n (length f) → source_reading (f ++ rest) ≡ address_reading rest
 unfolding source_reading
@@ -148,3 +146,56 @@ unfolding destination_reading
 destination-behind f g rest d e =
     ap₂ (λ (x y : Field). address_reading (drop (x.size + y.size) (f ++ (g ++ rest)))) d e
     ∙ ap address_reading (drop-append-add f (g ++ rest) (length g) ∙ drop-append_seam g rest)
+
+-- ---- what reading comes to, field by field, from what each of the three calls answered
+
+module _ (p : List ℕ) where
+  pub length_refused : (r : Refusal) → refused_field (number_of r) ≡ length_reading p → refused_fields (number_of r) ≡ reading p
+  length_refused r e = reading-length p (ap refusal e) (some r)
+
+  module _ (n k : ℕ) (l : field n k ≡ length_reading p) where
+    pub length_ends : k ≤ length p
+    length_ends = let w = length-within p in let e = ap (λ (f : Field). f.size) l in omega arith
+
+    source_read : address_reading (take (length p - k) (drop k p)) ≡ source_reading p
+    unfolding source_reading
+    source_read = ap address_reading (part-behind k p) ∙ ap (λ (f : Field). address_reading (drop f.size p)) l
+
+    pub source_refused : (r : Refusal) → refused_field (number_of r) ≡ address_reading (take (length p - k) (drop k p)) → refused_fields (number_of r) ≡ reading p
+    source_refused r e = reading-source p (sym (ap refusal l)) (ap refusal (e ∙ source_read)) (some r)
+
+    module _ (a m : ℕ) (s : field a m ≡ address_reading (take (length p - k) (drop k p))) where
+      ends : k + m ≡ (length_reading p).size + (source_reading p).size
+      ends = ap₂ (λ (f g : Field). f.size + g.size) l (s ∙ source_read)
+
+      pub source_ends : k + m ≤ length p
+      source_ends = let w = source-within p in omega (arith, ends)
+
+      pub source_few : k + m ≤ 20
+      source_few = let w = source-within p in omega (arith, ends)
+
+      destination_read : address_reading (take (length p - (k + m)) (drop (k + m) p)) ≡ destination_reading p
+      unfolding destination_reading
+      destination_read = ap address_reading (part-behind (k + m) p) ∙ ap (λ (j : ℕ). address_reading (drop j p)) ends
+
+      pub destination_refused : (r : Refusal) → refused_field (number_of r) ≡ address_reading (take (length p - (k + m)) (drop (k + m) p))
+          → refused_fields (number_of r) ≡ reading p
+      destination_refused r e =
+          reading-destination p (sym (ap refusal l)) (sym (ap refusal (s ∙ source_read))) (ap refusal (e ∙ destination_read)) (some r)
+
+      module _ (b j : ℕ) (d : field b j ≡ address_reading (take (length p - (k + m)) (drop (k + m) p))) where
+        pub destination_few : k + m + j ≤ 30
+        destination_few = let w = destination-within p in let e = ap (λ (f : Field). f.size) (d ∙ destination_read) in omega (arith, ends)
+
+        pub row_found : found n a b (k + m + j) ≡ reading p
+        row_found =
+            ap₂ (λ (f g : Field). found f.number g.number b (f.size + g.size + j)) l (s ∙ source_read)
+            ∙ ap (λ (h : Field). found (length_reading p).number (source_reading p).number h.number ((length_reading p).size + (source_reading p).size + h.size))
+            (d ∙ destination_read)
+            ∙ sym (reading-found p (sym (ap refusal l)) (sym (ap refusal (s ∙ source_read))) (sym (ap refusal (d ∙ destination_read))))
+
+-- what is lent is octets
+pub lent : (p : List ℕ) → ((i : ℕ) → Fits w8 (get_or p i 0)) → AreOctets p
+lent p h = all_octets p (λ i. (h i).fits)
+
+pub ruleset read_cases = (length_refused, length_ends, source_refused, source_ends, source_few, destination_refused, destination_few, lent)
