@@ -9,7 +9,7 @@ use native.Mathlib.Omega.{arith}
 use lib.ListN.{length, length-append, length-replicate}
 use lib.Pow.{pow-lt, pow_pos, pow-add, pow_mono}
 use lib.Dec.{eqb, leb}
-use borrow.Author.Tests.{eq-eqb, ne_eqb, lt-ltb, le-ltb, le-leb, lt-leb, leb-true}
+use borrow.Author.Tests.{eq-eqb, ne_eqb, lt-ltb, le-ltb, le-leb, leb-true}
 use Rattle.address.specs.Bits.{digit, number, longest}
 use Rattle.address.specs.Steps.{child, step_bits, last_of}
 use Rattle.address.specs.declared.Kind.{Kind}
@@ -17,7 +17,7 @@ use Rattle.address.specs.declared.Kind.TheVariants.{Router, Host}
 use Rattle.address.specs.Address.{bit_length, is_host}
 use Rattle.address.specs.Numbers.{IsAddress}
 use Rattle.address.specs.declared.Address.{Address}
-use Rattle.address.proofs.Numbers.{lt-bit_length}
+use Rattle.address.proofs.Numbers.{lt-bit_length, bit_length-le, digit_lt}
 use Rattle.address.proofs.Steps.{address_of-steps, address_of-child}
 use Rattle.address.proofs.Ancestors.{number-child}
 use Rattle.node.specs.Node.{Node, address_in, address_at, no_cap, count, raised, limit, with_limit, fits_address, fits_limit, is_good}
@@ -27,6 +27,9 @@ use Rattle.node.specs.Node.{child_bits, refuse_child, child_of, refuse_setting, 
 abbrev pub room : Node → ℕ
 room n = longest - bit_length (address_in n)
 
+-- no address is longer than the longest
+pub ruleset bit_length_bound = (bit_length-le)
+
 -- the counts fit the address
 
 module _ (n : Node) where
@@ -35,17 +38,9 @@ module _ (n : Node) where
   fits_address-zero z = rw (eq-eqb (address_in n) 0 z)
 
   module _ (some : address_in n ≡ 0 → ⊥) where
-    pub fits_address-host-routers : is_host (address_in n) ≡ true → (n.routers ≡ 0 → ⊥) → fits_address n ≡ false
-    unfolding fits_address
-    fits_address-host-routers h r = rw (ne_eqb (address_in n) 0 some, h, ne_eqb n.routers 0 r)
-
     pub fits_address-host : is_host (address_in n) ≡ true → n.routers ≡ 0 → fits_address n ≡ eqb n.hosts 0
     unfolding fits_address
     fits_address-host h r = rw (ne_eqb (address_in n) 0 some, h, eq-eqb n.routers 0 r)
-
-    pub fits_address-routers : is_host (address_in n) ≡ false → room n < n.routers → fits_address n ≡ false
-    unfolding fits_address
-    fits_address-routers h r = rw (ne_eqb (address_in n) 0 some, h, lt-leb n.routers (room n) r)
 
     pub fits_address-hosts : is_host (address_in n) ≡ false → n.routers ≤ room n → fits_address n ≡ leb n.hosts (room n)
     unfolding fits_address
@@ -54,10 +49,6 @@ module _ (n : Node) where
 -- the counts keep to the limits
 
 module _ (kind : Kind) (n : Node) where
-  pub fits_limit-over : no_cap < limit kind n → fits_limit kind n ≡ false
-  unfolding fits_limit
-  fits_limit-over l = rw (lt-leb (limit kind n) no_cap l)
-
   pub fits_limit-count : limit kind n ≤ no_cap → fits_limit kind n ≡ leb (count kind n) (limit kind n)
   unfolding fits_limit
   fits_limit-count l = rw (le-leb (limit kind n) no_cap l)
@@ -75,14 +66,6 @@ and_false true = refl
 and_false false = refl
 
 module _ (n : Node) where
-  pub is_good-routers : fits_limit Router n ≡ false → is_good n ≡ false
-  unfolding is_good
-  is_good-routers r = rw r
-
-  pub is_good-hosts : fits_limit Host n ≡ false → is_good n ≡ false
-  unfolding is_good
-  is_good-hosts h = rw (h, and_false (fits_limit Router n))
-
   pub is_good-kept : fits_limit Router n ≡ true → fits_limit Host n ≡ true → is_good n ≡ fits_address n
   unfolding is_good
   is_good-kept r h = rw (r, h)
@@ -200,6 +183,9 @@ stem_lt a i h e short =
         pow_mono {i = bit_length a + i} {j = 63} (omega arith),
       ),
     )
+
+-- a child's length, and the numbers on the way to its own
+pub ruleset child_room = (length-child_bits, bit_length-le, stem_lt, digit_lt)
 
 module _ (n : Node) (kind : Kind) (good : is_good n ≡ true) (inner : is_host (address_in n) ≡ false) (below : count kind n ≡ limit kind n → ⊥) where
   pub child_of-made : address_in n < 2 ^ longest

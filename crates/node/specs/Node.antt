@@ -1,6 +1,9 @@
 -- A node's record, the request for a child and the setting of a limit. "A node record is its address with two counts: router children and host
 -- children given so far."; "A node record gains two limits, routers and hosts" (document 02, Five).
 use Rattle.std.specs.Prelude.{ℕ, ◌+◌, ◌-◌, Bool, false, not, ◌&&◌, List, ◌++◌, length, eqb, leb, ltb, if◌then◌else◌}
+use Rattle.std.specs.Prelude.{Result, Ok, Err}
+use Rattle.refusal.specs.Outcome.{outcome_number}
+use Rattle.refusal.specs.declared.Refusal.{Refusal}
 use Rattle.address.specs.Bits.{Bit, bits, number, longest}
 use Rattle.address.specs.Address.{bit_length, is_host}
 use Rattle.address.specs.Steps.{child, step_bits}
@@ -9,8 +12,7 @@ use Rattle.address.specs.declared.Kind.{Kind}
 use Rattle.address.specs.declared.Kind.TheVariants.{Router, Host}
 pub use Rattle.node.specs.declared.Node.{Node}
 pub use Rattle.node.specs.declared.Limits.{Limits}
-pub use Rattle.node.specs.declared.Given.{Given}
-pub use Rattle.node.specs.declared.Limited.{Limited}
+use Rattle.node.specs.declared.Handed.{Handed}
 
 -- the number of a record's address
 abbrev pub address_in : Node → ℕ
@@ -79,9 +81,29 @@ is_good n = fits_limit Router n && fits_limit Host n && fits_address n
 unfoldable pub child_bits : Node → Kind → List Bit
 child_bits n kind = bits (address_in n) ++ step_bits (child kind (count kind n))
 
+-- what a request for a child answers: the record to go on with, the child's address and the refusal's number, 0 where the child is given
+pub record Given : Type 0 where
+  pub node : Node
+  pub child : Address
+  pub refusal : ℕ
+
+-- what a setting of a limit answers: the record to go on with and the refusal's number, 0 where the limit is set
+pub record Limited : Type 0 where
+  pub node : Node
+  pub refusal : ℕ
+
 -- "With any refusal the address .. and every other number returned beside its own are 0, a returned record is the one handed in"
 unfoldable pub refuse_child : ℕ → Node → Given
 refuse_child number n = record { node = n; child = address_at 0; refusal = number }
+
+-- the address of each case of an outcome
+abbrev pub child_handed : Result Address Refusal → Address
+child_handed (Ok address) = address
+child_handed (Err refusal) = address_at 0
+
+-- the papers' numbers for each
+abbrev pub given_answer : Handed Address → Given
+given_answer h = record { node = h.node; child = child_handed h.outcome; refusal = outcome_number h.outcome }
 
 -- "Asked for a child, the node hands itself back with one count raised and the child's address". The order is 1, 2, 15, 3: the record is bad; a
 -- host is asked; "a child at its limit"; the child would be longer than 64 bits.
@@ -96,6 +118,9 @@ child_of n kind =
 -- a setting refused: "a returned record is the one handed in"
 unfoldable pub refuse_setting : ℕ → Node → Limited
 refuse_setting number n = record { node = n; refusal = number }
+
+abbrev pub limited_answer : Handed (Unit {0}) → Limited
+limited_answer h = record { node = h.node; refusal = outcome_number h.outcome }
 
 -- "Setting a limit outside 0 to 64 or below its count, or on a bad record, is refused with 1; otherwise the record comes back with that limit as
 -- asked and nothing else changed."

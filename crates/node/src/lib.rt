@@ -2,34 +2,26 @@
 // and when a request or a setting is refused.
 #![tactic(auto)]
 
-ghost use Rattle.std.specs.Prelude.{◌≡◌, ◌<◌};
+ghost use Rattle.std.specs.Prelude.{◌≡◌, ◌<◌, Err};
 ghost use Rattle.address.specs.Bits.{digit};
 ghost use Rattle.address.specs.Steps.{last_of};
-ghost use Rattle.node.specs.Node.{fresh, with_counts, count, raised, limit, with_limit, fits_address, fits_limit, is_good, refuse_child, child_of, refuse_setting, set_limit};
+ghost use Rattle.node.specs.Node.{fresh, with_counts, count, raised, limit, with_limit, fits_address, fits_limit, is_good, given_answer, child_of, limited_answer, set_limit};
 
 use address::{Address, Kind};
+use refusal::Refusal;
 
-// Refusals: "the node record is bad", "a host is asked for a child", "a child at its limit", "the child would be longer than 64 bits".
-pub const BAD_RECORD: u8 = 1;
-
-pub const HOST_ASKED: u8 = 2;
-
-pub const AT_LIMIT: u8 = 15;
-
-pub const TOO_LONG: u8 = 3;
-
-// The highest limit: "64 meaning no cap".
+// The highest limit: "64 meaning no cap". It is a number, as limits are in the definitions and in C: an Option would say 64 twice.
 pub const NO_CAP: u8 = 64;
 
 // How many children of each kind a node may give.
-#[derive(Clone, Copy)]
+#[derive(Clone, Copy, Debug, PartialEq, Eq)]
 pub struct Limits {
     pub routers: u8,
     pub hosts: u8,
 }
 
 // An address with the children of each kind given so far, and its limits.
-#[derive(Clone, Copy)]
+#[derive(Clone, Copy, Debug, PartialEq, Eq)]
 pub struct Node {
     pub address: Address,
     pub routers: u8,
@@ -37,22 +29,15 @@ pub struct Node {
     pub limits: Limits,
 }
 
-// What a request for a child answers: the record to go on with, the child's address and the refusal's number, 0 where the child is given.
-#[derive(Clone, Copy)]
-pub struct Given {
+// What a node answers to a request: the record to go on with, and what was asked for or why it is refused.
+#[derive(Clone, Copy, Debug, PartialEq, Eq)]
+pub struct Handed<T> {
     pub node: Node,
-    pub child: Address,
-    pub refusal: u8,
-}
-
-// What a setting of a limit answers: the record to go on with and the refusal's number, 0 where the limit is set.
-#[derive(Clone, Copy)]
-pub struct Limited {
-    pub node: Node,
-    pub refusal: u8,
+    pub outcome: Result<T, Refusal>,
 }
 
 // The bit that a child's address ends with.
+#[tactic(auto, unfolding(address::specs::Bits::digit, address::specs::Steps::last_of))]
 fn last_bit(kind: Kind) -> u64
     ensures { result ≡ digit (last_of kind) }
 {
@@ -62,6 +47,7 @@ fn last_bit(kind: Kind) -> u64
     }
 }
 
+#[tactic(auto, unfolding(crate::specs::Node::fresh, crate::specs::Node::with_counts, crate::specs::Node::count, crate::specs::Node::raised, crate::specs::Node::limit, crate::specs::Node::with_limits, crate::specs::Node::with_limit, crate::specs::Node::fits_limit, crate::specs::Node::is_good, crate::specs::Node::refuse_child))]
 impl Node {
     // The record that a node starts with.
     pub fn fresh(address: Address) -> Node
@@ -82,13 +68,10 @@ impl Node {
     pub fn with_counts(self, routers: u8, hosts: u8) -> Node
         ensures { result ≡ with_counts routers hosts self }
     {
-        let address = self.address;
-        let limits = self.limits;
         Node {
-            address,
             routers,
             hosts,
-            limits,
+            ..self
         }
     }
 
@@ -102,7 +85,7 @@ impl Node {
         }
     }
 
-    // The limit on the children of a kind.
+    // The limit on the children of a kind. It and `count` stay two: the fields are named in both structs, which the definitions and C name too.
     pub fn limit(self, kind: Kind) -> u8
         ensures { result ≡ limit kind self }
     {
@@ -116,26 +99,18 @@ impl Node {
     fn fits_limit(self, kind: Kind) -> bool
         ensures { result ≡ fits_limit kind self }
     {
-        if NO_CAP < self.limit(kind) {
-            return false;
-        }
-        self.count(kind) <= self.limit(kind)
+        self.limit(kind) <= NO_CAP && self.count(kind) <= self.limit(kind)
     }
 
     // Whether the record is one that a node can have.
     pub fn is_good(self) -> bool
         ensures { result ≡ is_good self }
     {
-        if !self.fits_limit(Kind::Router) {
-            return false;
-        }
-        if !self.fits_limit(Kind::Host) {
-            return false;
-        }
-        self.fits_address()
+        self.fits_limit(Kind::Router) && self.fits_limit(Kind::Host) && self.fits_address()
     }
 
     // Whether the counts are ones that a node of this address can have.
+    #[tactic(auto, using(crate::proofs::ChildLaws::bit_length_bound), unfolding(crate::specs::Node::fits_address))]
     fn fits_address(self) -> bool
         ensures { result ≡ fits_address self }
     {
@@ -143,16 +118,10 @@ impl Node {
             return false;
         }
         if self.address.is_host() {
-            if self.routers != 0 {
-                return false;
-            }
-            return self.hosts == 0;
+            return self.routers == 0 && self.hosts == 0;
         }
         let room = Address::LONGEST - self.address.bit_length();
-        if room < self.routers as u32 {
-            return false;
-        }
-        self.hosts as u32 <= room
+        self.routers as u32 <= room && self.hosts as u32 <= room
     }
 
     // The record with one count raised.
@@ -161,47 +130,42 @@ impl Node {
         ensures { result ≡ raised kind self }
     {
         match kind {
-            Kind::Router => self.with_counts(self.routers + 1, self.hosts),
-            Kind::Host => self.with_counts(self.routers, self.hosts + 1),
-        }
-    }
-
-    // The record as it came, and no child.
-    fn refuse(self, number: u8) -> Given
-        ensures { result ≡ refuse_child number self }
-    {
-        Given {
-            node: self,
-            child: Address::of(0),
-            refusal: number,
+            Kind::Router => Node {
+                routers: self.routers + 1,
+                ..self
+            },
+            Kind::Host => Node {
+                hosts: self.hosts + 1,
+                ..self
+            },
         }
     }
 
     // Gives the next child of a kind: the record handed back takes the place of this one.
-    pub fn child(self, kind: Kind) -> Given
-        ensures { result ≡ child_of self kind }
+    #[tactic(auto, using(crate::proofs::ChildLaws::child_room), unfolding(crate::specs::Node::refuse_child, crate::specs::Node::child_of))]
+    pub fn child(self, kind: Kind) -> Handed<Address>
+        ensures { given_answer result ≡ child_of self kind }
     {
         if !self.is_good() {
-            return self.refuse(BAD_RECORD);
+            return self.refuse(Refusal::BadRecord);
         }
         if self.address.is_host() {
-            return self.refuse(HOST_ASKED);
+            return self.refuse(Refusal::HostAsked);
         }
         let given = self.count(kind);
         if given == self.limit(kind) {
-            return self.refuse(AT_LIMIT);
+            return self.refuse(Refusal::AtLimit);
         }
         let ones = given as u32;
         if Address::LONGEST < self.address.bit_length() + ones + 1 {
-            return self.refuse(TOO_LONG);
+            return self.refuse(Refusal::TooLong);
         }
         // The address with as many ones behind it, and then the child's last bit.
         let power = 1u64 << ones;
         let stem = self.address.number * power + (power - 1);
-        Given {
+        Handed {
             node: self.raised(kind),
-            child: Address::of(stem * 2 + last_bit(kind)),
-            refusal: 0,
+            outcome: Ok(Address::of(stem * 2 + last_bit(kind))),
         }
     }
 
@@ -209,54 +173,41 @@ impl Node {
     fn with_limit(self, kind: Kind, limit: u8) -> Node
         ensures { result ≡ with_limit kind limit self }
     {
-        let address = self.address;
-        let routers = self.routers;
-        let hosts = self.hosts;
         let limits = match kind {
             Kind::Router => Limits {
                 routers: limit,
-                hosts: self.limits.hosts,
+                ..self.limits
             },
             Kind::Host => Limits {
-                routers: self.limits.routers,
                 hosts: limit,
+                ..self.limits
             },
         };
-        Node {
-            address,
-            routers,
-            hosts,
-            limits,
-        }
+        Node { limits, ..self }
     }
 
-    // The record as it came, and its limit not set.
-    fn refuse_setting(self, number: u8) -> Limited
-        ensures { result ≡ refuse_setting number self }
+    // The record as it came.
+    fn refuse<T>(self, refusal: Refusal) -> Handed<T>
+        ensures { result ≡ record { node = self; outcome = Err refusal } }
     {
-        Limited {
+        Handed {
             node: self,
-            refusal: number,
+            outcome: Err(refusal),
         }
     }
 
     // Sets the limit on the children of a kind: the record handed back takes the place of this one. The limit comes in a type in which numbers
     // above 64 can be said, so that they are refused and not cut.
-    pub fn set_limit(self, kind: Kind, limit: u64) -> Limited
-        ensures { result ≡ set_limit self kind limit }
+    #[tactic(auto, unfolding(crate::specs::Node::refuse_setting, crate::specs::Node::set_limit))]
+    pub fn set_limit(self, kind: Kind, limit: u64) -> Handed<()>
+        ensures { limited_answer result ≡ set_limit self kind limit }
     {
-        if !self.is_good() {
-            return self.refuse_setting(BAD_RECORD);
+        if !self.is_good() || limit > NO_CAP as u64 || limit < self.count(kind) as u64 {
+            return self.refuse(Refusal::BadRecord);
         }
-        if (NO_CAP as u64) < limit {
-            return self.refuse_setting(BAD_RECORD);
-        }
-        if limit < self.count(kind) as u64 {
-            return self.refuse_setting(BAD_RECORD);
-        }
-        Limited {
+        Handed {
             node: self.with_limit(kind, limit as u8),
-            refusal: 0,
+            outcome: Ok(()),
         }
     }
 }
