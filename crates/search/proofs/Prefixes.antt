@@ -39,7 +39,7 @@ same_bit_true I I e = refl
 pub is_prefix_true : (cs ds : List Bit) → is_prefix cs ds ≡ true → (rest : List Bit) × (ds ≡ cs ++ rest)
 unfolding is_prefix
 is_prefix_true [] ds e = (ds, refl)
-is_prefix_true (c ∷ cs) [] e = let z : ◌≡◌ {A = ℕ} 0 1 = cc in absurd (omega arith)
+is_prefix_true (c ∷ cs) [] e = absurd cc
 is_prefix_true (c ∷ cs) (d ∷ ds) e =
     let both = (and-eq-true_iff (same_bit c d) (is_prefix cs ds)).0 e in
     let more = is_prefix_true cs ds both.1 in
@@ -134,9 +134,6 @@ module _ {c d : ℕ} (a : IsAddress c) (b : IsAddress d) where
       go : (t : Bool) → is_prefix (bits c) (bits d) ≡ t → t ≡ false
       go true e = absurd (other (first_bits-eq e))
       go false e = refl
-
-  pub first_bits-ancestor : AncestorOrSelf (steps c) (steps d) → first_bits (bit_length c) d ≡ c
-  first_bits-ancestor w = first_bits-eq (ancestor_or_self_prefix w)
 
   pub first_bits-is_prefix : first_bits (bit_length c) d ≡ c → is_prefix (bits c) (bits d) ≡ true
   unfolding first_bits

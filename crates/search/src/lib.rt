@@ -21,7 +21,7 @@ pub fn child_end(address: Address, from: u32) -> u32
     let even = address.number / 2 * 2;
     // The bits behind the first `from`, at the word's high end: one at least, so the shift is less than the width.
     let behind = even << (Address::LONGEST - (length - from));
-    let ones = u64::leading_zeros(!behind);
+    let ones = behind.leading_ones();
     from + ones + 1
 }
 
