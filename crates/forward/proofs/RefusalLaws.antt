@@ -5,7 +5,8 @@ use mathlib.Core.Path.{◌≡◌, refl, sym, ap, ◌∙◌}
 use mathlib.Core.Bool.{Bool, true, false, not}
 use mathlib.Core.Logic.{◌⊎◌, inl, inr}
 use mathlib.Core.List.{List, [], ◌∷◌, ◌++◌}
-use Prim.Native.Nat.{ℕ, zero, suc, ◌^◌, ◌<◌}
+use Prim.Native.Nat.{ℕ, suc, ◌^◌, ◌<◌}
+use native.Mathlib.Nat.{pos_of_ne-zero}
 use native.Mathlib.Omega.{arith}
 use borrow.Author.Tests.{eqb-true, eqb-false, ltb-true, ltb-false}
 use lib.Dec.{eqb, ltb}
@@ -38,7 +39,7 @@ on_way {c} {d} a b = go (is_host c) refl (eqb d c) refl (is_prefix (bits c) (bit
     go h i true s p q = inl ([], ap steps (eqb-true d c s))
     go true i false s p q = inr (λ w. eqb-false d c s (sym (host_ancestor_or_self a b i w)))
     go false i false s true q = inl (is_prefix_ancestor_or_self a b i q)
-    go false i false s false q = inr (λ w. let z : true ≡ false = sym (ancestor_or_self_prefix a b w) ∙ q in let y : ◌≡◌ {A = ℕ} 0 1 = cc in omega arith)
+    go false i false s false q = inr (λ w. let z : true ≡ false = sym (ancestor_or_self_prefix a b w) ∙ q in cc)
 
 number : {x y : HopAnswer} → x ≡ y → x.refusal ≡ y.refusal
 number e = ap (λ (r : HopAnswer). r.refusal) e
@@ -79,10 +80,6 @@ module _ (n : Node) (d : ℕ) (g : is_good n ≡ true) (a : IsAddress (address_i
           here true t = passed (number (next_hop-deliver n d g a b (eqb-true d (address_in n) t)))
           here false t = let next = next-step a b on (eqb-false d (address_in n) t) in step next.0 next.1 next.2
 
-pos : (d : ℕ) → (d ≡ 0 → ⊥) → 0 < d
-pos zero h = absurd (h refl)
-pos (suc d) h = omega arith
-
 pub first-hop : (n : Node) (d : ℕ) → address_in n < 2 ^ longest → d < 2 ^ longest → First (hop_order n d) (next_hop n d).refusal
 first-hop n d f h = go (is_good n) refl (eqb d 0) refl
   where
@@ -90,7 +87,7 @@ first-hop n d f h = go (is_good n) refl (eqb d 0) refl
     go false g z e = inl (bad-record n g, number (next_hop-bad n d g))
     go true g true e = inr (not-bad n g, inl (eqb-true d 0 e, number (next_hop-zero n d g (eqb-true d 0 e))))
     go true g false e =
-        inr (not-bad n g, inr (eqb-false d 0 e, below n d g (address-good n g f) (record { some = pos d (eqb-false d 0 e); fits = h })))
+        inr (not-bad n g, inr (eqb-false d 0 e, below n d g (address-good n g f) (record { some = pos_of_ne-zero (eqb-false d 0 e); fits = h })))
 
 -- beside a refusal stands nothing, and without one the packet goes on or is delivered
 
@@ -107,21 +104,18 @@ right-refused k = (λ h. refl, λ e s. omega arith)
 right_gone : (action : Action) (x : ℕ) → (action ≡ stop → ⊥) → Right (record { refusal = 0; action = action; named = x })
 right_gone action x h = (λ e. absurd (e refl), λ e s. h s)
 
-differ : ◌≡◌ {A = ℕ} 0 1 → ⊥
-differ z = omega arith
-
 right-toward : (n : Node) (looked : List Bit) → Right (toward n looked)
 unfolding toward
 right-toward n looked =
     right-if (ltb (index_looked looked) (count (kind_looked looked) n)) _ (refused_hop 7)
-    (right_gone to_child (value (bits (address_in n) ++ looked)) (λ s. differ cc)) (right-refused 6)
+    (right_gone to_child (value (bits (address_in n) ++ looked)) (λ s. cc)) (right-refused 6)
 
 right-hop : (n : Node) (d : ℕ) → Right (next_hop n d)
 unfolding next_hop rules
 right-hop n d =
     right-if (not (is_good n)) _ _ (right-refused 0) (right-if (eqb d 0) _ _ (right-refused 8)
-    (right-if (eqb d (address_in n)) _ _ (right_gone deliver _ (λ s. differ cc)) (right-if (is_host (address_in n)) _ _ (right_gone to_parent _ (λ s. differ cc))
-    (right-if (not (is_prefix (bits (address_in n)) (bits d))) _ _ (right_gone to_parent _ (λ s. differ cc))
+    (right-if (eqb d (address_in n)) _ _ (right_gone deliver _ (λ s. cc)) (right-if (is_host (address_in n)) _ _ (right_gone to_parent _ (λ s. cc))
+    (right-if (not (is_prefix (bits (address_in n)) (bits d))) _ _ (right_gone to_parent _ (λ s. cc))
     (right-toward n _)))))
 
 pub hop-refusals : HopRefusals next_hop

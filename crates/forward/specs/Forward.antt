@@ -1,12 +1,14 @@
 -- The next hop from an address: "With a good record of address C and a destination D", rules 1 to 4.
-use Rattle.std.specs.Prelude.{ℕ, not, List, ◌++◌, drop, eqb, ltb, if◌then◌else◌}
+use Rattle.std.specs.Prelude.{ℕ, not, List, ◌++◌, drop, eqb, ltb, if◌then◌else◌, Result, Ok, Err}
+use Rattle.refusal.specs.declared.Refusal.{Refusal}
+use Rattle.refusal.specs.Refusal.{number_of}
 use Rattle.address.specs.Bits.{Bit, bits, number}
 use Rattle.address.specs.Address.{bit_length, is_host, parent}
 use Rattle.search.specs.Search.{looked_at, is_prefix, kind_looked, index_looked}
 use Rattle.node.specs.Node.{address_in, count, is_good}
 use Rattle.node.specs.declared.Node.{Node}
 use Rattle.forward.specs.declared.Hop.{Hop}
-use Rattle.forward.specs.declared.Hop.TheVariants.{Deliver, Parent, Child, Refused}
+use Rattle.forward.specs.declared.Hop.TheVariants.{Deliver, Parent, Child}
 
 -- what becomes of a packet at a node
 pub data Action : Type 0 where
@@ -32,11 +34,11 @@ abbrev pub refused_hop : ℕ → HopAnswer
 refused_hop n = record { refusal = n; action = stop; named = 0 }
 
 -- the document's number and values for each case of the answer
-unfoldable pub hop_answer : Hop → HopAnswer
-hop_answer (Deliver a) = deliver_at a.number
-hop_answer (Parent a) = up_to a.number
-hop_answer (Child a) = down_to a.number
-hop_answer (Refused n) = refused_hop n
+unfoldable pub hop_answer : Result Hop Refusal → HopAnswer
+hop_answer (Ok (Deliver a)) = deliver_at a.number
+hop_answer (Ok (Parent a)) = up_to a.number
+hop_answer (Ok (Child a)) = down_to a.number
+hop_answer (Err r) = refused_hop (number_of r)
 
 -- rule 4, the bits looked at being given: "C with these bits is the child (000, 5.1 step 6). If its index is below the node's count of that
 -- kind, pass to it. Otherwise refusal 7."

@@ -11,20 +11,17 @@ ghost use Rattle.forward.specs.Forward.{hop_answer, toward, next_hop};
 
 use address::{Address, Kind};
 use node::Node;
+use refusal::Refusal;
 
-// Refusal 7: "destination below this node, child not given".
-pub const CHILD_NOT_GIVEN: u8 = 7;
-
-// What a next hop answers: deliver here, at the address named; pass to the parent or to the child named; or a refusal.
-#[derive(Clone, Copy)]
+// What becomes of a packet: deliver it here, at the address named; or pass it to the parent or to the child named.
+#[derive(Clone, Copy, Debug, PartialEq, Eq)]
 pub enum Hop {
     Deliver(Address),
     Parent(Address),
     Child(Address),
-    Refused(u8),
 }
 
-// The kind of a child by its last bit.
+// The kind of a child by its last bit. It is no `From<Address>`: the root has no kind.
 fn kind_of(child: Address) -> Kind
     ensures { result ≡ (if eqb (child.number % 2) 0 then Router else Host) }
 {
@@ -35,7 +32,7 @@ fn kind_of(child: Address) -> Kind
 }
 
 // Rule 4: the next child on the way to an address of which the node's is a proper prefix.
-fn toward(node: Node, destination: Address) -> Hop
+fn toward(node: Node, destination: Address) -> Result<Hop, Refusal>
     requires node_address { IsAddress node.address.number }
     requires destination_address { IsAddress destination.number }
     requires no_host { is_host node.address.number ≡ false }
@@ -48,30 +45,34 @@ fn toward(node: Node, destination: Address) -> Hop
     let child = search::first_bits(destination, end);
     let index = end - length - 1;
     if index < node.count(kind_of(child)) as u32 {
-        return Hop::Child(child);
+        return Ok(Hop::Child(child));
     }
-    Hop::Refused(CHILD_NOT_GIVEN)
+    Err(Refusal::ChildNotGiven)
 }
 
 // The next hop for a packet to the destination, at the node with this record.
-pub fn next_hop(node: Node, destination: Address) -> Hop
+// It goes into the caller's code: in a loop over destinations the compiler takes what the rules ask of the node alone out of the loop, where
+// a call for each of them takes up to twice as long.
+#[inline(always)]
+#[tactic(auto, unfolding(crate::specs::Forward::hop_answer, crate::specs::Forward::next_hop, crate::specs::Forward::rules))]
+pub fn next_hop(node: Node, destination: Address) -> Result<Hop, Refusal>
     ensures { hop_answer result ≡ next_hop node destination.number }
 {
     if !node.is_good() {
-        return Hop::Refused(node::BAD_RECORD);
+        return Err(Refusal::BadRecord);
     }
     if destination.number == 0 {
-        return Hop::Refused(address::ZERO_ADDRESS);
+        return Err(Refusal::ZeroAddress);
     }
     let here = node.address;
-    if destination.number == here.number {
-        return Hop::Deliver(here);
+    if destination == here {
+        return Ok(Hop::Deliver(here));
     }
     if here.is_host() {
-        return Hop::Parent(here.parent());
+        return Ok(Hop::Parent(here.parent()));
     }
-    if search::first_bits(destination, here.bit_length()).number != here.number {
-        return Hop::Parent(here.parent());
+    if search::first_bits(destination, here.bit_length()) != here {
+        return Ok(Hop::Parent(here.parent()));
     }
     toward(node, destination)
 }
