@@ -6,18 +6,17 @@ ghost use Rattle.forward.specs.Forward.{hop_answer};
 ghost use Rattle.packet.specs.Packet.{packet_hop};
 
 use forward::Hop;
-use header::Reading;
 use node::Node;
+use refusal::Refusal;
 
 // The next hop for a packet, at the node with this record.
-pub fn next_hop(node: Node, packet: &[u8]) -> Hop
+#[tactic(auto, unfolding(forward::specs::Forward::hop_answer, crate::specs::Packet::packet_hop), using(refusal::proofs::Numbers::some))]
+pub fn next_hop(node: Node, packet: &[u8]) -> Result<Hop, Refusal>
     ensures { hop_answer result ≡ packet_hop node packet.now }
 {
     if !node.is_good() {
-        return Hop::Refused(node::BAD_RECORD);
+        return Err(Refusal::BadRecord);
     }
-    match header::read(packet) {
-        Reading::Found(destination, _) => forward::next_hop(node, destination),
-        Reading::Refused(number) => Hop::Refused(number),
-    }
+    let header = header::read(packet)?;
+    forward::next_hop(node, header.address)
 }
