@@ -1,5 +1,4 @@
 -- The laws of the batch crate.
 mod Front
-mod Ends
 pub mod Words
 pub mod Promises

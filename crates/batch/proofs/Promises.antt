@@ -6,11 +6,13 @@ use Prim.Native.Nat.{ℕ}
 use contract.Lifetimes.{Lfts}
 use Rattle.std.specs.Borrow.{Bor, MutBor}
 use Rattle.node.specs.declared.Node.{Node}
+use Rattle.std.specs.Prelude.{Result}
+use Rattle.refusal.specs.declared.Refusal.{Refusal}
 use Rattle.forward.specs.declared.Hop.{Hop}
 use Rattle.forward.specs.Forward.{hop_answer}
 use Rattle.batch.specs.Exported.{PasaHop, pasa_hop}
 use Rattle.batch.specs.Batch.{BatchEffect, next_hops}
-use Rattle.batch.proofs.pasa_hop.Reads as pasa-hop-reads
+use Rattle.batch.proofs.PasaHopFromResultHopRefusal.from.Reads as pasa-hop-reads
 use Rattle.batch.proofs.next_hops.Reads as next-hops-reads
 
 -- a lent slice, to read and to write
@@ -20,10 +22,10 @@ Slice = Bor (List ℕ)
 abbrev SliceMut : Type 0
 SliceMut = MutBor (List ℕ)
 
-pub pasa_hop_promise : (h : Hop) (r : PasaHop) → pasa-hop-reads.Learnt tt (h, tt) r (h, tt) → r ≡ pasa_hop (hop_answer h)
+pub pasa_hop_promise : (h : Result Hop Refusal) (r : PasaHop) → pasa-hop-reads.Learnt tt (h, tt) r (h, tt) → r ≡ pasa_hop (hop_answer h)
 pasa_hop_promise h r e = e
 
-pub pasa_hop-asks-nothing : (h : Hop) → pasa-hop-reads.Asked tt (h, tt)
+pub pasa_hop-asks-nothing : (h : Result Hop Refusal) → pasa-hop-reads.Asked tt (h, tt)
 pasa_hop-asks-nothing h = tt
 
 module _ (κs : Lfts 4) (n : Node) (ds : Slice) (nodes actions refusals : SliceMut) where

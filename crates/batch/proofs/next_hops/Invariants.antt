@@ -1,15 +1,11 @@
--- So far the first i answers stand in front in each slice, and what stands behind them is as it was; what is left of the count falls.
-use Rattle.std.proofs.Common.{◌≤◌, ◌-◌}
-use Rattle.batch.specs.Batch.{node_for, action_for, refusal_for}
-use Rattle.batch.proofs.Front.{Stands}
+-- So far the first i answers stand in front in each slice, and what stands behind them is as it was.
+use Rattle.std.proofs.Common.{◌≡◌, map}
+use Rattle.batch.specs.Batch.{node_for, action_for, refusal_for, front}
 use Rattle.batch.proofs.next_hops.Given as goal
 
 abbrev pub invariant-loop-i : goal.invariant-loop-i
-invariant-loop-i l =
-    (l.i ≤ l.count)
-    × Stands (node_for l.node) l.i l.destinations l.fn.nodes l.nodes
-    × Stands (action_for l.node) l.i l.destinations l.fn.actions l.actions
-    × Stands (refusal_for l.node) l.i l.destinations l.fn.refusals l.refusals
-
-abbrev pub decreases-loop-i : goal.decreases-loop-i
-decreases-loop-i l = l.count - l.i
+invariant-loop-i l = record {
+  nodes : l.nodes ≡ front l.i (map (node_for l.node) l.destinations) l.fn.nodes;
+  actions : l.actions ≡ front l.i (map (action_for l.node) l.destinations) l.fn.actions;
+  refusals : l.refusals ≡ front l.i (map (refusal_for l.node) l.destinations) l.fn.refusals;
+}
