@@ -5,7 +5,9 @@ use Rattle.std.specs.Prelude.{ℕ, ◌-◌, Bool, true, false, ◌&&◌, ◌||�
 use Rattle.address.specs.Steps.{Step, child, steps, address_of}
 use Rattle.address.specs.declared.Kind.{Kind}
 use Rattle.address.specs.declared.Kind.TheVariants.{Router, Host}
-use Rattle.route.specs.declared.Listed.{Listed}
+use Rattle.std.specs.Prelude.{Result, Ok, Err}
+use Rattle.refusal.specs.declared.Refusal.{Refusal}
+use Rattle.refusal.specs.Refusal.{number_of}
 
 unfoldable pub same_kind : Kind → Kind → Bool
 same_kind Router Router = true
@@ -44,6 +46,17 @@ path a d = map address_of (path_of (steps a) (steps d))
 -- "the count is the listed path's length less one"
 unfoldable pub hops : List ℕ → ℕ
 hops p = length p - 1
+
+-- What the path call answers: a refusal's number, 0 where the path is listed, and its hops, one fewer than the addresses listed; 0 in a
+-- refusal.
+pub record Listed : Type 0 where
+  pub refusal : ℕ
+  pub hops : ℕ
+
+-- the papers' numbers for each case of the answer
+abbrev pub listed_answer : Result ℕ Refusal → Listed
+listed_answer (Ok k) = record { refusal = 0; hops = k }
+listed_answer (Err r) = record { refusal = number_of r; hops = 0 }
 
 -- What the path call comes to: the answer, and what the lent words hold at the end.
 pub record PathEffect : Type 0 where

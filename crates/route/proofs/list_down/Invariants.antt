@@ -5,6 +5,3 @@ use Rattle.route.proofs.list_down.Given as goal
 
 abbrev pub invariant-loop-i : goal.invariant-loop-i
 invariant-loop-i l = Down l.fn.second.number l.words l.a.number l.i × (length l.words ≡ length l.fn.words)
-
-abbrev pub decreases-loop-i : goal.decreases-loop-i
-decreases-loop-i l = l.i
