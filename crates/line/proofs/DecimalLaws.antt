@@ -13,12 +13,12 @@ use Rattle.line.specs.Line.{digit_zero, decimal}
 use Rattle.line.specs.Decimal.{decimal_from, decimal_value, AreDecimalDigits, DecimalReadsBack}
 
 -- a number by how many digits it has
-data Size (n : ℕ) : Type 0 where
+pub data Size (n : ℕ) : Type 0 where
   one : n < 10 → Size n
   two : 10 ≤ n → n < 100 → Size n
   three : 100 ≤ n → Size n
 
-size : (n : ℕ) → Size n
+pub size : (n : ℕ) → Size n
 size n = go (ltb n 10) refl (ltb n 100) refl
   where
     go : (t : Bool) → ltb n 10 ≡ t → (u : Bool) → ltb n 100 ≡ u → Size n

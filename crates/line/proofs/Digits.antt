@@ -1,90 +1,43 @@
--- The digits that a loop has passed in a text, and what is left of them: one octet more is a digit more, or there are no more digits.
-use mathlib.Core.Path.{◌≡◌, refl, ◌∙◌}
-use mathlib.Core.Logic.{◌⊎◌, inl, inr}
+-- The digits in front of a text: how many, and the last 64 bits of their number. Assumes nothing.
+use mathlib.Core.Path.{◌≡◌, refl}
 use mathlib.Core.Bool.{Bool, true, false}
-use mathlib.Core.List.{List, [], ◌∷◌, ◌++◌, append-nil, append_assoc}
-use Prim.Native.Nat.{ℕ, suc, ◌+◌, ◌*◌, ◌-◌, ◌%◌, ◌^◌, ◌≤◌, ◌<◌}
-use native.Mathlib.Nat.{eq-zero-or-pos}
-use native.Mathlib.Numerals.{add-one}
+use mathlib.Core.List.{List, [], ◌∷◌}
+use Prim.Native.Nat.{ℕ, ◌+◌, ◌*◌, ◌%◌, ◌^◌}
 use native.Mathlib.Omega.{arith}
-use borrow.Author.Tests.{ne_eqb}
-use lib.ListN.{length, get_or, drop, length-append, drop_of_length-le}
-use lib.Seq.{drop-cons}
+use borrow.Author.Tests.{eqb-true}
+use lib.ListN.{length, take}
 use lib.Dec.{eqb}
 use Rattle.std.specs.Prelude.{if◌then◌else◌}
-use Rattle.address.specs.Bits.{Bit, O, I, digit, number_from, number}
-use Rattle.address.proofs.Numbers.{number_snoc}
+use Rattle.std.specs.List.{fold, prefix_len}
+use Rattle.std.proofs.lemmas.List.Sums.{take_while-cons}
+use Rattle.address.specs.Bits.{O, I, digit, number_from}
 use Rattle.line.specs.Line.{digit_zero, digit_one, is_digit, digits_of}
 
--- ---- one octet
-
--- the digit that an octet is
-record Digit (o : ℕ) (os : List ℕ) : Type 0 where
-  bit : Bit
-  value : digit bit ≡ o - digit_zero
-  first : digits_of (o ∷ os) ≡ bit ∷ digits_of os
-
-digits_of-digit : (o : ℕ) (os : List ℕ) → digit_zero ≤ o → o ≤ digit_one → Digit o os
-unfolding digits_of digit
-digits_of-digit o os h l = go (eq-zero-or-pos (o - digit_zero))
+pub length-digits_of : (os : List ℕ) → length (digits_of os) ≡ prefix_len is_digit os
+unfolding digits_of
+length-digits_of [] = refl
+length-digits_of (o ∷ os) = go (is_digit o) (length-digits_of os)
   where
-    go : (o - digit_zero ≡ 0) ⊎ (0 < o - digit_zero) → Digit o os
-    go (inl e) = let z : o ≡ digit_zero = omega arith in record { bit = O; value = omega arith; first = rw z }
-    go (inr p) = let z : o ≡ digit_one = omega arith in record { bit = I; value = omega arith; first = rw z }
+    go : (t : Bool) → length (digits_of os) ≡ prefix_len is_digit os
+        → length (if t then (if eqb o digit_one then I else O) ∷ digits_of os else []) ≡ (if t then 1 + prefix_len is_digit os else 0)
+    go true e = omega arith
+    go false e = refl
 
-digits_of_other : (o : ℕ) (os : List ℕ) → (o ≡ digit_zero → ⊥) → (o ≡ digit_one → ⊥) → digits_of (o ∷ os) ≡ []
-unfolding digits_of
-digits_of_other o os h l = rw (ne_eqb o digit_zero h, ne_eqb o digit_one l)
+-- one digit more, less whatever is past 64 bits
+abbrev pub pushed : ℕ → ℕ → ℕ
+pushed n o = n * 2 % 2 ^ 64 + o % 2
 
-pub length-digits_of-le : (os : List ℕ) → length (digits_of os) ≤ length os
-unfolding digits_of
-length-digits_of-le [] = omega arith
-length-digits_of-le (o ∷ os) = go (is_digit o) (length-digits_of-le os)
+one_more : (n v o d : ℕ) → n ≡ v % 2 ^ 64 → o % 2 ≡ d → pushed n o ≡ (v * 2 + d) % 2 ^ 64
+one_more n v o d e f = omega arith
+
+pub fold-digits : (os : List ℕ) (n v : ℕ) → n ≡ v % 2 ^ 64 → fold pushed n (take (prefix_len is_digit os) os) ≡ number_from v (digits_of os) % 2 ^ 64
+unfolding digits_of number_from digit
+fold-digits [] n v e = e
+fold-digits (o ∷ os) n v e = rw (take_while-cons is_digit o os) (go (fold-digits os) (eqb o digit_zero) (eqb o digit_one) refl refl)
   where
-    go : (t : Bool) → length (digits_of os) ≤ length os → length (if t then (if eqb o digit_one then I else O) ∷ digits_of os else []) ≤ suc (length os)
-    go true h = omega arith
-    go false h = omega arith
-
--- ---- where there are no more digits
-
-pub digits_of_past : (text : List ℕ) (end : ℕ) → length text ≤ end → digits_of (drop end text) ≡ []
-unfolding digits_of
-digits_of_past text end h = rw (drop_of_length-le text {i = end} h)
-
-pub digits_of-stop : (text : List ℕ) (end : ℕ) → end < length text → (get_or text end 0 ≡ digit_zero → ⊥) → (get_or text end 0 ≡ digit_one → ⊥) → digits_of (drop end text) ≡ []
-digits_of-stop text end h z o = rw (drop-cons text end 0 h) (digits_of_other (get_or text end 0) (drop (suc end) text) z o)
-
--- ---- the digits that the loop has passed, and their number less whatever is past 64 bits
-
-pub record Passed (text : List ℕ) (from end n : ℕ) : Type 0 where
-  pub digits : List Bit
-  pub split : digits_of (drop from text) ≡ digits ++ digits_of (drop end text)
-  pub place : end ≡ from + length digits
-  pub value : n ≡ number digits % 2 ^ 64
-
-pub passed_none : (text : List ℕ) (from : ℕ) → Passed text from from 0
-unfolding number number_from
-passed_none text from = record { digits = []; split = refl; place = omega arith; value = refl }
-
-one_more : (n v d : ℕ) → n ≡ v % 2 ^ 64 → d < 2 → n % 2 ^ 63 * 2 + d ≡ (v * 2 + d) % 2 ^ 64
-one_more n v d e h = omega arith
-
-module _ {text : List ℕ} {from end n : ℕ} (p : Passed text from end n) where
-  pub passed-digit : end < length text → digit_zero ≤ get_or text end 0 → get_or text end 0 ≤ digit_one
-      → Passed text from (end + 1) (n % 2 ^ 63 * 2 + (get_or text end 0 - digit_zero))
-  passed-digit h z o =
-      let octet = get_or text end 0 in
-      let next = digits_of-digit octet (drop (suc end) text) z o in
-      record {
-        digits = p.digits ++ (next.bit ∷ []);
-        split = p.split ∙ rw (drop-cons text end 0 h, next.first, add-one, append_assoc);
-        place = rw length-append (omega (arith, p.place));
-        value = one_more n (number p.digits) (octet - digit_zero) p.value (omega arith)
-            ∙ rw (number_snoc, next.value);
-      }
-
-  pub passed_all : digits_of (drop end text) ≡ []
-      → (end ≡ from + length (digits_of (drop from text))) × (n ≡ number (digits_of (drop from text)) % 2 ^ 64)
-  passed_all e =
-      let all : digits_of (drop from text) ≡ p.digits = p.split ∙ rw (e, append-nil) in
-      rw all (p.place, p.value)
+    go : ((m w : ℕ) → m ≡ w % 2 ^ 64 → fold pushed m (take (prefix_len is_digit os) os) ≡ number_from w (digits_of os) % 2 ^ 64)
+        → (t u : Bool) → eqb o digit_zero ≡ t → eqb o digit_one ≡ u
+        → fold pushed n (if is_digit o then o ∷ take (prefix_len is_digit os) os else []) ≡ number_from v (digits_of (o ∷ os)) % 2 ^ 64
+    go h true u a b = rw (eqb-true o digit_zero a) (h (pushed n digit_zero) (v * 2 + digit O) (one_more n v digit_zero (digit O) e refl))
+    go h false true a b = rw (eqb-true o digit_one b) (h (pushed n digit_one) (v * 2 + digit I) (one_more n v digit_one (digit I) e refl))
+    go h false false a b = rw (a, b) e

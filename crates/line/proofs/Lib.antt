@@ -1,5 +1,5 @@
 -- The laws of the line crate.
-mod Stores
+mod Fills
 mod Texts
 mod Digits
 mod Parsed

@@ -1,22 +1,24 @@
--- What an input asks for, test by test, in terms of the places that the reader finds: `middle` behind the first digits and `last` behind the
--- second. Assumes nothing.
+-- What an input asks for, test by test, in terms of what the reader finds. Assumes nothing.
 use mathlib.Core.Path.{◌≡◌, refl, sym, ap, ◌∙◌}
-use mathlib.Core.Bool.{Bool, true, false, ◌||◌, and-false}
+use mathlib.Core.Logic.{◌⊎◌, inl, inr}
+use mathlib.Core.Bool.{Bool, true, false, not, ◌||◌, and-false}
 use mathlib.Core.List.{List, [], ◌∷◌}
-use Prim.Native.Nat.{ℕ, suc, ◌+◌, ◌%◌, ◌^◌, ◌≤◌, ◌<◌}
+use Prim.Native.Nat.{ℕ, suc, ◌-◌, ◌≤◌, ◌<◌}
 use native.Mathlib.Nat.{mod-eq_of_lt}
-use native.Mathlib.Numerals.{add-one}
 use native.Mathlib.Omega.{arith}
-use borrow.Author.Tests.{eq-eqb, ne_eqb, le-leb, lt-leb, leb-true}
-use lib.ListN.{length, get_or, drop, length-drop, drop_of_length-le}
-use lib.Seq.{drop-cons, drop-drop}
+use borrow.Author.Tests.{eqb-true, eq-eqb, ne_eqb, le-leb, lt-leb, leb-true}
+use lib.ListN.{length, get_or, take, drop, length-drop}
+use lib.Seq.{take_all}
 use lib.Dec.{eqb}
+use lib.Pointwise.{pointwise, bytes_decides}
 use Rattle.std.specs.Prelude.{if◌then◌else◌}
+use Rattle.std.specs.List.{fold, prefix_len}
 use Rattle.address.specs.Bits.{Bit, O, I, number, longest}
 use Rattle.address.specs.Numbers.{IsAddressString}
 use Rattle.address.proofs.Numbers.{number-address}
 use Rattle.octets.proofs.SameLaws.{same_refl, same_ne}
-use Rattle.line.specs.Line.{digit_one, digit_zero, space, newline, digits_of, after_digits, are_address, after_space, parsed, between, unreadable}
+use Rattle.line.specs.Line.{digit_one, digit_zero, space, newline, is_digit, digits_of, after_digits, are_address, after_space, parsed, between, unreadable}
+use Rattle.line.proofs.Digits.{length-digits_of, pushed, fold-digits}
 
 -- ---- digits that are an address
 
@@ -38,6 +40,11 @@ are_address-long [] h = refl
 are_address-long (O ∷ ds) h = refl
 are_address-long (I ∷ ds) h = lt-leb (suc (length ds)) longest h
 
+are_address-none : (ds : List Bit) → length ds ≡ 0 → are_address ds ≡ false
+unfolding are_address
+are_address-none [] e = refl
+are_address-none (b ∷ ds) e = absurd (omega arith)
+
 digits_of-one : (o : ℕ) (os : List ℕ) → o ≡ digit_one → digits_of (o ∷ os) ≡ I ∷ digits_of os
 unfolding digits_of
 digits_of-one o os e = rw e
@@ -50,43 +57,59 @@ are_address_other o os h = rw (ne_eqb o digit_one h) (go (eqb o digit_zero))
     go true = refl
     go false = refl
 
--- the address that the digits from a place on are, 0 where they are none
-abbrev pub address_in : List Bit → ℕ
-address_in ds = if are_address ds then number ds else 0
+-- the digits in front of a text
 
-module _ (text : List ℕ) (from : ℕ) where
-  pub address_in_past : length text ≤ from → address_in (digits_of (drop from text)) ≡ 0
-  unfolding digits_of are_address
-  address_in_past h = rw (drop_of_length-le text {i = from} h)
+pub found_other : (text : List ℕ) → (get_or text 0 0 ≡ digit_one → ⊥) → are_address (digits_of text) ≡ false
+found_other [] h = unfold digits_of are_address in refl
+found_other (o ∷ os) h = are_address_other o os h
 
-  pub address_in_other : from < length text → (get_or text from 0 ≡ digit_one → ⊥) → address_in (digits_of (drop from text)) ≡ 0
-  address_in_other h o = rw (drop-cons text from 0 h, are_address_other (get_or text from 0) (drop (suc from) text) o)
+module _ (text : List ℕ) {k : ℕ} (e : k ≡ prefix_len is_digit text) where
+  pub found_none : (k ≡ 0) ⊎ ((k ≡ 0 → ⊥) × longest < k) → are_address (digits_of text) ≡ false
+  found_none (inl z) = are_address-none (digits_of text) (omega (arith, length-digits_of text))
+  found_none (inr h) = are_address-long (digits_of text) (omega (arith, h.1, length-digits_of text))
 
-  pub address_in-long : longest < length (digits_of (drop from text)) → address_in (digits_of (drop from text)) ≡ 0
-  address_in-long h = rw (are_address-long (digits_of (drop from text)) h)
-
-  pub address_in-one : from < length text → get_or text from 0 ≡ digit_one → length (digits_of (drop from text)) ≤ longest
-      → address_in (digits_of (drop from text)) ≡ number (digits_of (drop from text)) % 2 ^ longest
-  address_in-one h e l =
-      let ds = digits_of (drop from text) in
-      let first : ds ≡ I ∷ digits_of (drop (suc from) text) = rw (drop-cons text from 0 h) (digits_of-one (get_or text from 0) (drop (suc from) text) e) in
-      let string : IsAddressString ds = record { first = (digits_of (drop (suc from) text), first); short = l } in
-      rw (string-are_address ds string) (sym (mod-eq_of_lt (number-address string).fits))
-
-module _ (ds : List Bit) {n : ℕ} (e : n ≡ address_in ds) where
-  pub address_in-zero : n ≡ 0 → are_address ds ≡ false
-  address_in-zero z = go (are_address ds) refl
+  pub found : (k ≡ 0 → ⊥) → k ≤ longest → get_or text 0 0 ≡ digit_one
+      → (are_address (digits_of text) ≡ true)
+      × (fold pushed 0 (take k text) ≡ number (digits_of text))
+      × (take (length text - k) (drop k text) ≡ after_digits text)
+  unfolding after_digits number
+  found some l one =
+      let count = length-digits_of text in
+      let string : IsAddressString (digits_of text) = record { first = go text one (omega arith); short = omega arith } in (
+        string-are_address (digits_of text) string,
+        ap (λ (n : ℕ). fold pushed 0 (take n text)) e ∙ fold-digits text 0 0 refl ∙ mod-eq_of_lt (number-address string).fits,
+        take_all (length text - k) (drop k text) (omega (arith, length-drop k text)) ∙ ap (λ (n : ℕ). drop n text) (omega arith),
+      )
     where
-      go : (t : Bool) → are_address ds ≡ t → t ≡ false
-      go true a = absurd (omega (arith, rw a at e, (number-address (are_address-string ds a)).some))
-      go false a = refl
+      go : (os : List ℕ) → get_or os 0 0 ≡ digit_one → 0 < length (digits_of os) → (ds : List Bit) × (digits_of os ≡ I ∷ ds)
+      go [] o h = absurd (omega (arith, length-digits_of []))
+      go (o ∷ os) f h = (digits_of os, digits_of-one o os f)
 
-  pub address_in-some : (n ≡ 0 → ⊥) → (are_address ds ≡ true) × (n ≡ number ds)
-  address_in-some z = go (are_address ds) refl
-    where
-      go : (t : Bool) → are_address ds ≡ t → (are_address ds ≡ true) × (n ≡ number ds)
-      go true a = (a, rw a at e)
-      go false a = absurd (z (rw a at e))
+-- what stands behind one space
+
+pub after_space_none : (os : List ℕ) → pointwise eqb (take 1 os) (space ∷ []) ≡ false → after_space os ≡ []
+unfolding after_space
+after_space_none [] e = refl
+after_space_none (o ∷ os) e = go (eqb o space) refl
+  where
+    go : (t : Bool) → eqb o space ≡ t → (if t then os else []) ≡ []
+    go true f =
+        let first : o ∷ [] ≡ space ∷ [] = rw (eqb-true o space f) in
+        let same = (bytes_decides (o ∷ []) (space ∷ [])).1 first in
+        cc
+    go false f = refl
+
+pub after_space-some : (os : List ℕ) → pointwise eqb (take 1 os) (space ∷ []) ≡ true → after_space os ≡ drop 1 os
+unfolding after_space
+after_space-some [] e = refl
+after_space-some (o ∷ os) e =
+    let first = (bytes_decides (o ∷ []) (space ∷ [])).0 e in
+    let is : o ≡ space = cc in
+    rw (eq-eqb o space is)
+
+not-false : (t : Bool) → not t ≡ false → t ≡ true
+not-false true e = refl
+not-false false e = cc
 
 -- ---- the input, test by test
 
@@ -95,48 +118,31 @@ module _ (input : List ℕ) where
   unfolding parsed
   parsed-first e = rw e
 
-  parsed-second : are_address (digits_of (after_space (after_digits input))) ≡ false → parsed input ≡ unreadable
-  unfolding parsed
-  parsed-second e = rw (e, and-false)
+  module _ {rest : List ℕ} (r : rest ≡ after_digits input) where
+    parsed-second : {behind : List ℕ} → behind ≡ after_space rest → are_address (digits_of behind) ≡ false → parsed input ≡ unreadable
+    unfolding parsed
+    parsed-second b e = rw (← r, ← b, e, and-false)
 
-  module _ {middle : ℕ} (m : middle ≡ length (digits_of input)) where
-    front : after_digits input ≡ drop middle input
-    unfolding after_digits
-    front = rw m
+    pub parsed_unspaced : pointwise eqb (take 1 rest) (space ∷ []) ≡ false → parsed input ≡ unreadable
+    parsed_unspaced e = parsed-second (sym (after_space_none rest e)) (unfold digits_of are_address in refl)
 
-    pub parsed-short : length input ≤ middle → parsed input ≡ unreadable
-    unfolding digits_of are_address after_space
-    parsed-short h = parsed-second (rw (front, drop_of_length-le input {i = middle} h))
+    module _ {behind : List ℕ} (p : pointwise eqb (take 1 rest) (space ∷ []) ≡ true) (b : behind ≡ drop 1 rest) where
+      behind_is : behind ≡ after_space rest
+      behind_is = b ∙ sym (after_space-some rest p)
 
-    pub parsed_unspaced : middle < length input → (get_or input middle 0 ≡ space → ⊥) → parsed input ≡ unreadable
-    unfolding digits_of are_address after_space
-    parsed_unspaced h s = parsed-second (rw (front, drop-cons input middle 0 h, ne_eqb (get_or input middle 0) space s))
+      pub parsed_no_second : are_address (digits_of behind) ≡ false → parsed input ≡ unreadable
+      parsed_no_second = parsed-second behind_is
 
-    module _ (h : middle < length input) (s : get_or input middle 0 ≡ space) where
-      behind : after_space (after_digits input) ≡ drop (middle + 1) input
-      unfolding after_space
-      behind = rw (front, drop-cons input middle 0 h, eq-eqb (get_or input middle 0) space s, add-one)
-
-      pub parsed_no_second : are_address (digits_of (drop (middle + 1) input)) ≡ false → parsed input ≡ unreadable
-      parsed_no_second e = parsed-second (rw (behind, e))
-
-      module _ {last : ℕ} (l : last ≡ middle + 1 + length (digits_of (drop (middle + 1) input))) where
-        rest : after_digits (after_space (after_digits input)) ≡ drop last input
-        rest = rw behind (unfold after_digits in drop-drop (length (digits_of (drop (middle + 1) input))) (middle + 1) input ∙ rw l)
-
-        parsed-end : (drop last input ≡ newline ∷ [] → ⊥) → parsed input ≡ unreadable
+      module _ {last : List ℕ} (l : last ≡ after_digits behind) where
+        pub parsed_unended : true ≡ not (pointwise eqb last (newline ∷ [])) → parsed input ≡ unreadable
         unfolding parsed
-        parsed-end ne = rw (rest, same_ne (drop last input) (newline ∷ []) ne, and-false)
+        parsed_unended e = rw (← r, ← behind_is, ← l, same_ne last (newline ∷ []) (λ f. let t = (bytes_decides last (newline ∷ [])).1 f in let u = rw t at e in cc), and-false)
 
-        pub parsed-length : (length input ≡ last + 1 → ⊥) → last ≤ length input → parsed input ≡ unreadable
-        parsed-length ne r = parsed-end (λ e. ne (omega (arith, ap length e, length-drop last input)))
-
-        pub parsed_unended : last < length input → (get_or input last 0 ≡ newline → ⊥) → parsed input ≡ unreadable
-        parsed_unended r ne = parsed-end (λ e. ne (let f = sym (drop-cons input last 0 r) ∙ e in cc))
-
-        pub parsed-both : length input ≡ last + 1 → get_or input last 0 ≡ newline → are_address (digits_of input) ≡ true → are_address (digits_of (drop (middle + 1) input)) ≡ true
-            → parsed input ≡ between (number (digits_of input)) (number (digits_of (drop (middle + 1) input)))
+        pub parsed-both : false ≡ not (pointwise eqb last (newline ∷ []))
+            → are_address (digits_of input) ≡ true → are_address (digits_of behind) ≡ true
+            → parsed input ≡ between (number (digits_of input)) (number (digits_of behind))
         unfolding parsed
-        parsed-both r e a b =
-            let end : drop last input ≡ newline ∷ [] = drop-cons input last 0 (omega arith) ∙ rw (e, drop_of_length-le input {i = suc last} (omega arith)) in
-            rw (rest, end, same_refl (newline ∷ []), behind, a, b)
+        parsed-both e a d =
+            let t : pointwise eqb last (newline ∷ []) ≡ true = cc (not-false _ (sym e)) in
+            let end = (bytes_decides last (newline ∷ [])).0 t in
+            rw (← r, ← behind_is, ← l, a, d, end, same_refl (newline ∷ []))

@@ -1,7 +1,7 @@
 -- The path program's work: from the octets of its input to those of its output. "It reads one line from standard input: two addresses in
 -- binary digits, one space between, a newline, nothing after. Anything else, a leading zero or a 65th digit included, prints `refused 11`
 -- and a newline and no more."
-use Rattle.std.specs.Prelude.{ℕ, ◌+◌, ◌/◌, ◌%◌, Bool, false, ◌&&◌, ◌||◌, List, [], ◌∷◌, ◌++◌, map, length, drop, eqb, leb, ltb, if◌then◌else◌}
+use Rattle.std.specs.Prelude.{ℕ, zero, suc, ◌+◌, ◌/◌, ◌%◌, Bool, false, ◌&&◌, ◌||◌, List, [], ◌∷◌, ◌++◌, map, length, drop, eqb, leb, ltb, if◌then◌else◌}
 use Rattle.address.specs.Bits.{Bit, O, I, bits, number, longest}
 use Rattle.octets.specs.Octets.{WriteEffect, refuse_writing, write, same}
 use Rattle.route.specs.Path.{path, hops}
@@ -73,6 +73,11 @@ decimal n =
     if ltb n 10 then (digit_zero + n) ∷ []
     else if ltb n 100 then (digit_zero + n / 10) ∷ (digit_zero + n % 10) ∷ []
     else (digit_zero + n / 100) ∷ (digit_zero + n / 10 % 10) ∷ (digit_zero + n % 10) ∷ []
+
+-- the last k digits of a number in a base up to ten
+unfoldable pub digits_in : ℕ → ℕ → ℕ → List ℕ
+digits_in base zero n = []
+digits_in base (suc k) n = digits_in base k (n / base) ++ ((digit_zero + n % base) ∷ [])
 
 -- the addresses, "with a newline after each line"
 unfoldable pub lines : List ℕ → List ℕ

@@ -5,17 +5,14 @@ mod read;
 mod write;
 
 ghost use Rattle.std.specs.Prelude.{◌≡◌, ◌<◌, length, ltb, if◌then◌else◌};
-ghost use Rattle.octets.specs.Octets.{WriteEffect, refuse_writing, write};
+ghost use Rattle.octets.specs.Octets.{written_answer, WriteEffect, refuse_writing, write};
 ghost use Rattle.route.specs.Path.{path};
 ghost use Rattle.line.specs.Line.{refused_text, path_text, answering};
 ghost use Rattle.line.specs.Exactly.{room};
 ghost use Rattle.line.specs.Edge.{window};
 
 use address::Address;
-use octets::Written;
-
-// Refusal 10: "lent output too short".
-pub const NO_ROOM: u8 = 10;
+use refusal::Refusal;
 
 // The room that every output fits.
 pub const ROOM: usize = 8200;
@@ -37,52 +34,44 @@ fn window() -> usize
 }
 
 // Writes "refused 11" and a newline.
-fn refuse(out: &mut [u8]) -> Written
-    ensures { ◌≡◌ {A = WriteEffect} (record { answer = result; buffer = out.new }) (if ltb (length out.old) (length refused_text) then refuse_writing 10 out.old else write refused_text out.old) }
+fn refuse(out: &mut [u8]) -> Result<usize, Refusal>
+    ensures { ◌≡◌ {A = WriteEffect} (record { answer = written_answer result; buffer = out.new }) (if ltb (length out.old) (length refused_text) then refuse_writing 10 out.old else write refused_text out.old) }
 {
-    if out.len() < 11 {
-        return Written {
-            refusal: NO_ROOM,
-            count: 0,
-        };
+    let text = b"refused 11\n";
+    if out.len() < text.len() {
+        return Err(Refusal::NoRoom);
     }
-    let count = write::put_text(b"refused 11\n", 0, out);
-    Written { refusal: 0, count }
+    out[..text.len()].copy_from_slice(text);
+    Ok(text.len())
 }
 
-// Writes the hops and the addresses of the path between two addresses.
-fn report(first: u64, second: u64, out: &mut [u8]) -> Written
-    requires first_some { 0 < first }
-    requires second_some { 0 < second }
-    ensures { ◌≡◌ {A = WriteEffect} (record { answer = result; buffer = out.new }) (if ltb (length out.old) (length (path_text (path first second))) then refuse_writing 10 out.old else write (path_text (path first second)) out.old) }
+// Writes the hops and the addresses of the path between two addresses. It has no text to hand to `refuse`: what it takes is counted first.
+fn report(first: Address, second: Address, out: &mut [u8]) -> Result<usize, Refusal>
+    requires first_some { 0 < first.number }
+    requires second_some { 0 < second.number }
+    ensures { ◌≡◌ {A = WriteEffect} (record { answer = written_answer result; buffer = out.new }) (if ltb (length out.old) (length (path_text (path first.number second.number))) then refuse_writing 10 out.old else write (path_text (path first.number second.number)) out.old) }
 {
+    // No heap: the longest path has 126 addresses.
     let mut words = [0u64; 126];
-    let listed = route::path(Address::of(first), Address::of(second), &mut words);
-    let hops = listed.hops;
-    let count = hops as usize + 1;
-    let size = write::hops_size(hops) + write::lines_size(&words[..count]);
+    let hops = route::path(first, second, &mut words)?;
+    let addresses = &words[..hops as usize + 1];
+    let line = write::hops_size(hops);
+    let size = line + write::lines_size(addresses);
     if out.len() < size {
-        return Written {
-            refusal: NO_ROOM,
-            count: 0,
-        };
+        return Err(Refusal::NoRoom);
     }
-    let at = write::put_hops(hops, out);
-    write::put_lines(&words[..count], at, out);
-    Written {
-        refusal: 0,
-        count: size,
-    }
+    write::put_hops(hops, &mut out[..line]);
+    write::put_lines(addresses, &mut out[line..size]);
+    Ok(size)
 }
 
 // Writes the program's whole output for an input to the front of the lent octets.
-pub fn answer(input: &[u8], out: &mut [u8]) -> Written
-    ensures answer { result ≡ (answering input.now out.old).answer }
+pub fn answer(input: &[u8], out: &mut [u8]) -> Result<usize, Refusal>
+    ensures answer { written_answer result ≡ (answering input.now out.old).answer }
     ensures buffer { out.new ≡ (answering input.now out.old).buffer }
 {
-    let ends = read::read_line(input);
-    if ends.first == 0 {
-        return refuse(out);
+    match read::read_line(input) {
+        Some((first, second)) => report(first, second, out),
+        None => refuse(out),
     }
-    report(ends.first, ends.second, out)
 }

@@ -1,103 +1,53 @@
-// Reading the line: binary digits from a place on, an address in them, and the two addresses of the whole input.
-ghost use Rattle.std.specs.Prelude.{◌≡◌, ◌+◌, ◌%◌, ◌^◌, length, drop, eqb, if◌then◌else◌};
+// Reading the line: the digits in front of a text, the address that they are, and the two addresses of the whole input.
+ghost use Rattle.std.specs.Prelude.{◌≡◌, ◌+◌, ◌*◌, ◌%◌, ◌^◌, true, false, MatchOption};
+ghost use Rattle.std.specs.List.{fold, prefix_len};
 ghost use Rattle.address.specs.Bits.{number as value_of};
-ghost use Rattle.line.specs.Line.{digits_of, are_address, parsed, between, unreadable};
+ghost use Rattle.line.specs.Line.{is_digit, digits_of, after_digits, are_address, parsed, between, unreadable};
 
 use address::Address;
 
 // The most digits that an address has.
 const LONGEST: usize = Address::LONGEST as usize;
 
-// A run of binary digits: the place behind it, and a number.
-#[derive(Clone, Copy)]
-pub(crate) struct Run {
-    pub(crate) end: usize,
-    pub(crate) number: u64,
-}
-
-// The two addresses of the input, both 0 where it is not the one line.
-#[derive(Clone, Copy)]
-pub(crate) struct Ends {
-    pub(crate) first: u64,
-    pub(crate) second: u64,
-}
-
-impl Ends {
-    const NONE: Ends = Ends {
-        first: 0,
-        second: 0,
-    };
-}
-
-// The digits from a place on, and the last 64 bits of the number that they give.
-fn digits_at(text: &[u8], from: usize) -> Run
-    ensures end { result.end ≡ from + length (digits_of (drop from text.now)) }
-    ensures number { result.number ≡ value_of (digits_of (drop from text.now)) % 2 ^ 64 }
+// The number of binary digits in front.
+fn count_digits(text: &[u8]) -> usize
+    ensures { result ≡ prefix_len is_digit text.now }
 {
-    let mut number: u64 = 0;
-    let mut end = from;
-    while end < text.len() {
-        let octet = text[end];
-        if octet < b'0' {
-            return Run { end, number };
-        }
-        if b'1' < octet {
-            return Run { end, number };
-        }
-        number = number % 0x8000_0000_0000_0000 * 2 + (octet - b'0') as u64;
-        end += 1;
-    }
-    Run { end, number }
+    text.iter()
+        .take_while(|octet| matches!(**octet, b'0' | b'1'))
+        .count()
 }
 
-// The digits from a place on, and the address that they are, 0 where they are none.
-#[tactic(auto, using(crate::proofs::Parsed::address_in_other))]
-fn address_at(text: &[u8], from: usize) -> Run
-    ensures end { result.end ≡ from + length (digits_of (drop from text.now)) }
-    ensures number { result.number ≡ (if are_address (digits_of (drop from text.now)) then value_of (digits_of (drop from text.now)) else 0) }
+// The last 64 bits of the number that digits give.
+fn number_of(digits: &[u8]) -> u64
+    ensures { result ≡ fold (λ n o. n * 2 % 2 ^ 64 + o % 2) 0 digits.now }
 {
-    let run = digits_at(text, from);
-    let end = run.end;
-    if text.len() <= from {
-        return Run { end, number: 0 };
+    digits.iter().fold(0, |number: u64, digit| (number << 1) + (*digit % 2) as u64)
+}
+
+// The address that the digits in front are, and what stands behind them.
+#[tactic(auto, using(crate::proofs::Parsed::found_other))]
+fn address_in(text: &[u8]) -> Option<(Address, &[u8])>
+    ensures { MatchOption result (are_address (digits_of text.now) ≡ false) (λ found. (are_address (digits_of text.now) ≡ true) × (found.0.number ≡ value_of (digits_of text.now)) × (found.1.now ≡ after_digits text.now)) }
+{
+    let count = count_digits(text);
+    if count == 0 || LONGEST < count {
+        return None;
     }
-    if text[from] != b'1' {
-        return Run { end, number: 0 };
+    if text[0] != b'1' {
+        return None;
     }
-    if LONGEST < end - from {
-        return Run { end, number: 0 };
-    }
-    run
+    Some((Address::of(number_of(&text[..count])), &text[count..]))
 }
 
 // The two addresses that the input asks for.
-pub(crate) fn read_line(input: &[u8]) -> Ends
-    ensures { parsed input.now ≡ (if eqb result.first 0 then unreadable else between result.first result.second) }
+pub(crate) fn read_line(input: &[u8]) -> Option<(Address, Address)>
+    ensures { MatchOption result (parsed input.now ≡ unreadable) (λ ends. parsed input.now ≡ between ends.0.number ends.1.number) }
 {
-    let first = address_at(input, 0);
-    let middle = first.end;
-    if first.number == 0 {
-        return Ends::NONE;
+    let (first, rest) = address_in(input)?;
+    let (second, rest) = address_in(rest.strip_prefix(b" ")?)?;
+    if rest != b"\n".as_slice() {
+        return None;
     }
-    if input.len() <= middle {
-        return Ends::NONE;
-    }
-    if input[middle] != b' ' {
-        return Ends::NONE;
-    }
-    let second = address_at(input, middle + 1);
-    let last = second.end;
-    if second.number == 0 {
-        return Ends::NONE;
-    }
-    if input.len() != last + 1 {
-        return Ends::NONE;
-    }
-    if input[last] != b'\n' {
-        return Ends::NONE;
-    }
-    Ends {
-        first: first.number,
-        second: second.number,
-    }
+    Some((first, second))
 }

@@ -1,8 +1,7 @@
 -- The text is 11 octets long and goes to the front.
-use Rattle.std.proofs.Common.{ap₂, ◌∙◌, ℕ, List, length, arith, lt-ltb, le-ltb}
+use Rattle.std.proofs.Common.{ap, ℕ, List, ◌++◌, length, drop, arith, lt-ltb, le-ltb}
 use Rattle.octets.specs.Octets.{refuse_writing, wrote, write}
 use Rattle.line.specs.Line.{refused_text}
-use Rattle.line.proofs.Stores.{sets_front}
 use Rattle.line.proofs.refuse.Goals as goal
 
 pub returns-then-out-lt11 : goal.returns-then-out-lt11
@@ -13,4 +12,4 @@ pub returns : goal.returns
 unfolding write refused_text
 returns c =
     rw (le-ltb (length c.args.out.now) 11 (omega arith))
-    (ap₂ (λ (n : ℕ) (l : List ℕ). record { answer = wrote n; buffer = l }) c.put_text-count.ensures.place (c.put_text-count.ensures.stored ∙ sets_front c.args.out.now refused_text (omega arith)))
+    (ap (λ (l : List ℕ). record { answer = wrote 11; buffer = l ++ drop 11 c.args.out.now }) c.copy_from_slice.ensures.after)

@@ -1,17 +1,10 @@
--- Case by case of the digits.
+-- The line has six octets beside the digits.
 use Rattle.std.proofs.Common.{arith}
-use Rattle.line.specs.Line.{hops_text}
-use Rattle.line.proofs.Texts.{decimal-one, decimal_two, decimal_three}
+use Rattle.line.proofs.Texts.{length-decimal-le, length_hops_line}
 use Rattle.line.proofs.write.hops_size.Goals as goal
 
-pub returns-then-hops-lt10 : goal.returns-then-hops-lt10
-unfolding hops_text
-returns-then-hops-lt10 c = rw (decimal-one c.args.hops c.if-hops-lt10.true)
-
-pub returns-then-hops-lt100 : goal.returns-then-hops-lt100
-unfolding hops_text
-returns-then-hops-lt100 c = rw (decimal_two c.args.hops (omega arith) (omega arith))
+pub overflow_add-result : goal.overflow_add-result
+overflow_add-result c = omega (arith, length-decimal-le c.args.hops)
 
 pub returns : goal.returns
-unfolding hops_text
-returns c = rw (decimal_three c.args.hops (omega arith))
+returns c = omega (arith, length_hops_line c.args.hops)

@@ -1,32 +1,28 @@
 -- The word, the number and the newline stand one behind the other.
-use Rattle.std.proofs.Common.{◌≡◌, ◌+◌, ℕ, List, [], ◌∷◌, ◌++◌, sym, ap₂, ◌∙◌, length, arith, length-append}
-use Rattle.std.proofs.Math.ListN.{set}
-use Rattle.std.proofs.lemmas.List.Edits.{sets}
-use Rattle.line.specs.Line.{newline, decimal, hops_text}
-use Rattle.line.proofs.Stores.{sets_append}
+use Rattle.std.proofs.Common.{◌≡◌, ◌∙◌, length-take, length-drop, length-append, arith}
+use Rattle.line.specs.Line.{decimal, hops_text}
 use Rattle.line.proofs.Texts.{length_hops_line}
+use Rattle.line.proofs.Fills.{digits-decimal, hops-line}
 use Rattle.line.proofs.write.put_hops.Goals as goal
 
-pub put_text-number-requires : goal.put_text-number-requires
-put_text-number-requires c = omega (arith, length_hops_line c.args.hops)
+pub slice_bounds-copy_from_slice-end : goal.slice_bounds-copy_from_slice-end
+slice_bounds-copy_from_slice-end c = omega (arith, length_hops_line c.args.hops)
 
-pub put_decimal-end-requires-clause-room : goal.put_decimal-end-requires-clause-room
-put_decimal-end-requires-clause-room c = omega (arith, length_hops_line c.args.hops)
+pub slice_bounds-put_digits-count : goal.slice_bounds-put_digits-count
+slice_bounds-put_digits-count c = omega (arith, length_hops_line c.args.hops)
 
-pub bounds-out-end : goal.bounds-out-end
-bounds-out-end c = omega (arith, length_hops_line c.args.hops)
+pub slice_bounds-copy_from_slice-end-2 : goal.slice_bounds-copy_from_slice-end-2
+slice_bounds-copy_from_slice-end-2 c = omega (arith, length_hops_line c.args.hops, length-take 5 c.args.out.now)
 
-pub returns-clause-place : goal.returns-clause-place
-returns-clause-place c = omega (arith, length_hops_line c.args.hops)
+pub copy_from_slice-requires : goal.copy_from_slice-requires
+copy_from_slice-requires c = omega (arith, length_hops_line c.args.hops, length-take 5 c.args.out.now)
 
-pub returns-clause-stored : goal.returns-clause-stored
+pub slice_bounds-put_digits-start : goal.slice_bounds-put_digits-start
+slice_bounds-put_digits-start c = omega (arith, length_hops_line c.args.hops)
+
+pub returns : goal.returns
 unfolding hops_text
-returns-clause-stored c =
-    let out = c.args.out.now in
-    let digits = decimal c.args.hops in
-    let texts : c.put_decimal-end.new.out ≡ sets out 0 (hops_text ++ digits) =
-    c.put_decimal-end.ensures.stored
-    ∙ ap₂ (λ (l : List ℕ) (k : ℕ). sets l k digits) c.put_text-number.ensures.stored c.put_text-number.ensures.place
-    ∙ sym (sets_append out 0 hops_text digits) in
-    let place : c.put_decimal-end.result ≡ 0 + length (hops_text ++ digits) = omega (arith, length-append hops_text digits) in
-    ap₂ (λ (l : List ℕ) (k : ℕ). set l k newline) texts place ∙ sym (sets_append out 0 (hops_text ++ digits) (newline ∷ []))
+returns c =
+    let size = length_hops_line c.args.hops in
+    let digits : c.put_digits.new.out ≡ decimal c.args.hops = c.put_digits.ensures ∙ digits-decimal _ c.args.hops c.requires.below (simp (length-take, length-drop, length-append) (omega (arith, size, c.copy_from_slice.ensures.len, length-take 5 c.args.out.now))) in
+    rw (c.copy_from_slice.ensures.after, digits) (hops-line c.args.out.now (decimal c.args.hops) (omega arith))

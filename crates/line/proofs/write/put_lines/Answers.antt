@@ -1,39 +1,40 @@
--- The next line is the address at i and the newline.
-use Rattle.std.proofs.Common.{◌≡◌, ◌+◌, ◌<◌, ℕ, List, [], ◌∷◌, ◌++◌, sym, ap, ◌∙◌, length, drop, get_or, arith, add-one, length-append, length-set, drop_of_length-le}
-use Rattle.std.proofs.Math.Seq.{drop-cons}
-use Rattle.line.specs.Line.{newline, address_text, lines}
-use Rattle.line.proofs.Stores.{sets_joined}
+-- The next line is the address at the index and the newline.
+use Rattle.std.proofs.Common.{◌≡◌, ◌+◌, ◌-◌, ◌<◌, ◌≤◌, length, get_or, refl, ap, ◌∙◌, arith, length-append, length-take, length-drop}
+use Rattle.line.specs.Line.{address_text, lines}
+use Rattle.line.proofs.Fills.{put_mid, digits-address, line-next, line-room, line-stored}
 use Rattle.line.proofs.write.put_lines.Goals as goal
+use Rattle.line.proofs.write.put_lines.Goals.{After-address_size, After-put_digits}
 
-next : (addresses : List ℕ) (i : ℕ) → i < length addresses
-    → lines (drop i addresses) ≡ address_text (get_or addresses i 0) ++ (newline ∷ []) ++ lines (drop (i + 1) addresses)
+pub loop-address-init : goal.loop-address-init
 unfolding lines
-next addresses i h = rw (add-one, drop-cons addresses i 0 h)
+loop-address-init c = record { place = refl; stored = refl }
 
-size : (addresses : List ℕ) (i : ℕ) → i < length addresses
-    → length (lines (drop i addresses)) ≡ length (address_text (get_or addresses i 0)) + 1 + length (lines (drop (i + 1) addresses))
-size addresses i h = ap length (next addresses i h) ∙ simp length-append
+room : (c : After-address_size) → c.loop-address.at + c.address_size.result + 1 ≤ length c.loop-address.out
+room c = omega (arith, line-room c.args.addresses.now c.loop-address.address-index c.loop-address-test.true)
 
-pub put_address-end-requires : goal.put_address-end-requires
-put_address-end-requires c = omega (arith, size c.args.addresses.now c.loop-i.i c.loop-i-test.true)
+text : (c : After-put_digits) → c.put_digits.new.out ≡ address_text (get_or c.args.addresses.now c.loop-address.address-index 0)
+text c =
+    c.put_digits.ensures
+    ∙ digits-address _ (get_or c.args.addresses.now c.loop-address.address-index 0) (c.type_inv.addresses c.loop-address.address-index).fits
+    (simp (length-take, length-drop) (omega (arith, room (goal.at.After-put_digits c).After-address_size)))
+
+within : (c : After-put_digits)
+    → c.loop-address.at + c.address_size.result
+    < length (put_mid c.loop-address.at (c.loop-address.at + c.address_size.result - c.loop-address.at) c.loop-address.out c.put_digits.new.out)
+within c =
+    simp (length-append, length-take, length-drop) (omega (arith, ap length (text c), room (goal.at.After-put_digits c).After-address_size))
+
+pub slice_bounds-put_digits-end : goal.slice_bounds-put_digits-end
+slice_bounds-put_digits-end c = omega (arith, room (goal.at.slice_bounds-put_digits-end c).After-address_size)
 
 pub bounds-out-end : goal.bounds-out-end
-bounds-out-end c = omega (arith, size c.args.addresses.now c.loop-i.i c.loop-i-test.true)
+bounds-out-end c = within (goal.at.bounds-out-end c).After-put_digits
 
-pub overflow_add-place : goal.overflow_add-place
-overflow_add-place c = omega (arith, size c.args.addresses.now c.loop-i.i c.loop-i-test.true)
-
-pub loop-i-preserved : goal.loop-i-preserved
-loop-i-preserved c =
-    let turn = size c.args.addresses.now c.loop-i.i c.loop-i-test.true in
-    let text = address_text (get_or c.args.addresses.now c.loop-i.i 0) in
+pub loop-address-preserved : goal.loop-address-preserved
+loop-address-preserved c =
+    let at = (goal.at.loop-address-preserved c).After-put_digits in
     record {
-      within = omega arith;
-      room = simp length-set (omega arith);
-      stored = c.loop-i.invariant.stored
-          ∙ rw (next c.args.addresses.now c.loop-i.i c.loop-i-test.true, sets_joined c.loop-i.out c.loop-i.place text newline, ← c.put_address-end.ensures.stored, ← c.put_address-end.ensures.place);
+      place = omega (arith, line-next c.args.addresses.now c.loop-address.address-index c.loop-address-test.true);
+      stored = line-stored c.args.addresses.now c.loop-address.address-index c.loop-address-test.true c.loop-address.out c.put_digits.new.out
+          c.loop-address.invariant.stored (text at) (omega (arith, ap length (text at))) (omega (arith, room (goal.at.loop-address-preserved c).After-address_size)) (within at);
     }
-
-pub returns : goal.returns
-unfolding lines
-returns c = sym (c.loop-i.invariant.stored ∙ rw (drop_of_length-le c.args.addresses.now {i = c.loop-i.i} c.loop-i-test.false))
