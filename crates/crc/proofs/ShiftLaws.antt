@@ -3,13 +3,14 @@
 use Rattle.std.specs.Prelude.{if◌then◌else◌}
 use mathlib.Core.Path.{◌≡◌, refl, sym, ap, ap₂, ◌∙◌}
 use mathlib.Core.Bool.{Bool, true, false}
-use mathlib.Core.List.{List, [], ◌∷◌, ◌++◌}
+use mathlib.Core.List.{List, [], ◌∷◌}
 use Prim.Native.Nat.{ℕ, zero, suc, ◌*◌, ◌/◌, ◌%◌, ◌^◌, ◌<◌}
 use native.Mathlib.Nat.{mod-lt}
 use native.Mathlib.Omega.{arith}
 use lib.Dec.{eqb, lit<}
 use lib.Bits.{bit_xor, xor_zero_r, xor_lt, xor_shr, xor_mod}
 use Rattle.crc.specs.Crc.{polynomial, start, bit, moved_up, shift_in, shift_bits, shift_octet, crc_from, crc}
+use Rattle.std.specs.List.{fold}
 use Rattle.crc.specs.Checks.{CrcFits}
 use Rattle.crc.proofs.XorLaws.{at_bits, xor_exchange, xor_times}
 
@@ -41,16 +42,17 @@ pub crc-fits : CrcFits
 unfolding crc
 crc-fits os = crc_from-lt start os (lit< tt)
 
--- ---- octets behind others
+-- ---- by a fold
 
-pub crc_from-append : (r : ℕ) (xs ys : List ℕ) → crc_from r (xs ++ ys) ≡ crc_from (crc_from r xs) ys
+crc_from_by_fold : (r : ℕ) (os : List ℕ) → crc_from r os ≡ fold shift_octet r os
 unfolding crc_from
-crc_from-append r [] ys = refl
-crc_from-append r (x ∷ xs) ys = crc_from-append (shift_octet r x) xs ys
+crc_from_by_fold r [] = refl
+crc_from_by_fold r (o ∷ os) = crc_from_by_fold (shift_octet r o) os
 
-pub crc_snoc : (os : List ℕ) (o : ℕ) → crc (os ++ (o ∷ [])) ≡ shift_octet (crc os) o
-unfolding crc crc_from
-crc_snoc os o = crc_from-append start os (o ∷ [])
+-- the octets go in one after the other, as a fold takes them
+pub crc_by_fold : (os : List ℕ) → crc os ≡ fold shift_octet start os
+unfolding crc
+crc_by_fold = crc_from_by_fold start
 
 -- ---- linear: the exclusive or of two registers and of two message bits gives that of the two results
 

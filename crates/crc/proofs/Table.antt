@@ -71,5 +71,5 @@ by_table_lem r half h =
     ∙ ap₂ (shift_bits 4) (xor_shifted (r / 2 ^ 12) 12 (r % 2 ^ 12) low ∙ split r 12) (xor_zero_r half)
 
 -- the place in the table
-pub place-lt : (r half : ℕ) → r < 2 ^ 16 → half < 16 → bit_xor (r / 2 ^ 12) half < 16
-place-lt r half h k = xor_lt 4 (r / 2 ^ 12) half (shr_lt 4 12 h) k
+pub place_in_table : (r half : ℕ) → r < 2 ^ 16 → half < 16 → bit_xor (r / 2 ^ 12) half < 16
+place_in_table r half h k = xor_lt 4 (r / 2 ^ 12) half (shr_lt 4 12 h) k

@@ -16,6 +16,7 @@ const REMAINDERS: [u16; 16] = [
 const START: u16 = 0xFFFF;
 
 // The entry of a half octet.
+#[tactic(auto, using(crate::proofs::Table::table_rule))]
 fn remainder(half: u16) -> u16
     requires { half < 16 }
     ensures { result ≡ remainder half }
@@ -24,6 +25,7 @@ fn remainder(half: u16) -> u16
 }
 
 // Half an octet goes in: it meets the four bits that leave at the top, and what is left of both is taken off the bits that move up.
+#[tactic(auto, using(crate::proofs::Table::place_in_table, crate::proofs::Table::by_table_lem))]
 fn shift_half(register: u16, half: u8) -> u16
     requires { half < 16 }
     ensures { result ≡ shift_bits 4 register half }
@@ -32,6 +34,7 @@ fn shift_half(register: u16, half: u8) -> u16
 }
 
 // An octet goes in, its high half first.
+#[tactic(auto, using(crate::proofs::ShiftLaws::halves))]
 fn shift_octet(register: u16, octet: u8) -> u16
     ensures { result ≡ shift_octet register octet }
 {
@@ -40,14 +43,11 @@ fn shift_octet(register: u16, octet: u8) -> u16
 }
 
 // The check of some octets.
+#[tactic(auto, using(crate::proofs::ShiftLaws::crc_by_fold))]
 pub fn crc(octets: &[u8]) -> u16
     ensures { result ≡ crc octets.now }
 {
-    let mut register = START;
-    let mut i = 0;
-    while i < octets.len() {
-        register = shift_octet(register, octets[i]);
-        i += 1;
-    }
-    register
+    octets
+        .iter()
+        .fold(START, |register, octet| shift_octet(register, *octet))
 }
