@@ -1,12 +1,11 @@
--- What `block_put` and `is_block` say, test by test: the slot as it was or false at the first test that fails, and the block or the last test
--- where all before hold. Assumes nothing.
+-- What `block_put` and `is_block` say by their tests: the block where all hold, and the last test where all before it hold. Assumes nothing.
 use mathlib.Core.Path.{◌≡◌, ◌∙◌}
 use mathlib.Core.Bool.{true, false, ◌&&◌, and-eq-true_iff}
 use mathlib.Core.List.{List}
-use Prim.Native.Nat.{ℕ, ◌≤◌, ◌<◌}
+use Prim.Native.Nat.{ℕ}
 use lib.Dec.{eqb, leb}
 use lib.ListN.{length, get_or}
-use borrow.Author.Tests.{eq-eqb, ne_eqb, eqb-true, le-leb, lt-leb, leb-true}
+use borrow.Author.Tests.{eq-eqb, ne_eqb, eqb-true, le-leb, leb-true}
 use Rattle.block.specs.Block.{slot_bytes, most_addresses, first_byte, last_byte}
 use Rattle.block.specs.Block.{block, is_count, block_put, all_are, count_in, zeros_in, told_in, crc_in, is_block}
 use Rattle.block.specs.Blocks.{IsCount}
@@ -21,63 +20,24 @@ pub is_count_true : (n : ℕ) → IsCount n → is_count n ≡ true
 unfolding is_count
 is_count_true n (some, few) = rw (le-leb 1 n some, le-leb n most_addresses few)
 
-pub is_count-zero : (n : ℕ) → n < 1 → is_count n ≡ false
-unfolding is_count
-is_count-zero n h = rw (lt-leb 1 n h)
-
-pub is_count-many : (n : ℕ) → 1 ≤ n → most_addresses < n → is_count n ≡ false
-unfolding is_count
-is_count-many n some h = rw (le-leb 1 n some, lt-leb n most_addresses h)
-
 -- ---- what is put
 
-module _ (xs slot : List ℕ) where
-  pub block_put-size : (length slot ≡ slot_bytes → ⊥) → block_put xs slot ≡ slot
-  unfolding block_put
-  block_put-size h = rw (ne_eqb (length slot) slot_bytes h)
-
-  pub block_put_uncounted : length slot ≡ slot_bytes → is_count (length xs) ≡ false → block_put xs slot ≡ slot
-  unfolding block_put
-  block_put_uncounted size h = rw (eq-eqb (length slot) slot_bytes size, h)
-
-  pub block_put-done : length slot ≡ slot_bytes → IsCount (length xs) → block_put xs slot ≡ block xs
-  unfolding block_put
-  block_put-done size h = rw (eq-eqb (length slot) slot_bytes size, is_count_true (length xs) h)
+pub block_put-done : (xs slot : List ℕ) → length slot ≡ slot_bytes → IsCount (length xs) → block_put xs slot ≡ block xs
+unfolding block_put
+block_put-done xs slot size h = rw (eq-eqb (length slot) slot_bytes size, is_count_true (length xs) h)
 
 -- ---- what is read
 
-module _ (slot : List ℕ) where
-  pub is_block-size : (length slot ≡ slot_bytes → ⊥) → is_block slot ≡ false
+module _ (slot : List ℕ) (size : length slot ≡ slot_bytes) where
+  pub is_block-first : (get_or slot 0 0 ≡ first_byte → ⊥) → is_block slot ≡ false
   unfolding is_block
-  is_block-size h = rw (ne_eqb (length slot) slot_bytes h)
+  is_block-first h = rw (eq-eqb (length slot) slot_bytes size, ne_eqb (get_or slot 0 0) first_byte h)
 
-  module _ (size : length slot ≡ slot_bytes) where
-    pub is_block-first : (get_or slot 0 0 ≡ first_byte → ⊥) → is_block slot ≡ false
-    unfolding is_block
-    is_block-first h = rw (eq-eqb (length slot) slot_bytes size, ne_eqb (get_or slot 0 0) first_byte h)
-
-    module _ (first : get_or slot 0 0 ≡ first_byte) where
-      pub is_block_uncounted : is_count (count_in slot) ≡ false → is_block slot ≡ false
-      unfolding is_block
-      is_block_uncounted h = rw (eq-eqb (length slot) slot_bytes size, eq-eqb (get_or slot 0 0) first_byte first, h)
-
-      module _ (count : is_count (count_in slot) ≡ true) where
-        pub is_block-zeros : all_are 0 (zeros_in slot) ≡ false → is_block slot ≡ false
-        unfolding is_block
-        is_block-zeros h = rw (eq-eqb (length slot) slot_bytes size, eq-eqb (get_or slot 0 0) first_byte first, count, h)
-
-        module _ (zeros : all_are 0 (zeros_in slot) ≡ true) where
-          pub is_block-check : (told_in slot ≡ crc_in slot → ⊥) → is_block slot ≡ false
-          unfolding is_block
-          is_block-check h =
-              let differ = ne_eqb (told_in slot) (crc_in slot) h in
-              rw (eq-eqb (length slot) slot_bytes size, eq-eqb (get_or slot 0 0) first_byte first, count, zeros, differ)
-
-          pub is_block-last : told_in slot ≡ crc_in slot → is_block slot ≡ eqb (get_or slot 511 0) last_byte
-          unfolding is_block
-          is_block-last h =
-              let agree = eq-eqb (told_in slot) (crc_in slot) h in
-              rw (eq-eqb (length slot) slot_bytes size, eq-eqb (get_or slot 0 0) first_byte first, count, zeros, agree)
+  pub is_block-last : get_or slot 0 0 ≡ first_byte → is_count (count_in slot) ≡ true → all_are 0 (zeros_in slot) ≡ true → told_in slot ≡ crc_in slot
+      → is_block slot ≡ eqb (get_or slot 511 0) last_byte
+  unfolding is_block
+  is_block-last first count zeros agree =
+      rw (eq-eqb (length slot) slot_bytes size, eq-eqb (get_or slot 0 0) first_byte first, count, zeros, eq-eqb (told_in slot) (crc_in slot) agree)
 
 -- the tests passed
 pub record Right (slot : List ℕ) : Type 0 where

@@ -1,5 +1,5 @@
 -- The laws of blocks: how the code writes and reads them, what is claimed of them, and what the crates above cite.
-mod Zeros
+pub mod Zeros
 pub mod Cases
 mod Spread
 mod Filling

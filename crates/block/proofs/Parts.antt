@@ -2,14 +2,14 @@
 -- byte. Assumes nothing.
 use mathlib.Core.Path.{◌≡◌, sym, ap, ◌∙◌, subst}
 use mathlib.Core.List.{List, [], ◌∷◌, ◌++◌, append_assoc}
-use Prim.Native.Nat.{ℕ, ◌+◌, ◌-◌, ◌*◌, ◌/◌, ◌%◌, ◌≤◌}
+use Prim.Native.Nat.{ℕ, ◌+◌, ◌-◌, ◌*◌, ◌≤◌}
 use native.Mathlib.Nat.{add-sub_cancel_left}
 use native.Mathlib.Omega.{arith}
 use lib.ListN.{length, take, drop, get_or, replicate, length-append, length-replicate}
 use lib.Seq.{take_at, drop_at, get_or-append-add}
 use Rattle.octets.specs.Octets.{octets}
+use Rattle.octets.proofs.OctetLaws.{length-octets}
 use Rattle.crc.specs.Crc.{crc}
-use Rattle.crc.proofs.ShiftLaws.{crc-fits}
 use Rattle.block.specs.Block.{slot_bytes, most_addresses, first_byte, last_byte, checked, addresses_at, address_bytes, addresses_end}
 use Rattle.block.specs.Block.{spread, content, block}
 use Rattle.block.proofs.Spread.{length-spread}
@@ -76,14 +76,10 @@ module _ (xs : List ℕ) where
         subst (λ (n : ℕ). get_or (content xs ++ tail (content xs)) (n + i) 0 ≡ get_or (tail (content xs)) i 0) length-content
         (get_or-append-add (content xs) (tail (content xs)) i 0)
 
-    -- the CRC's high octet, its low one, and the last byte
-    pub get_d_high : crc (content xs) / 256 ≡ get_or (block xs) 509 0
-    unfolding octets
-    get_d_high = let high : crc (content xs) / 256 ≡ crc (content xs) / 256 % 256 = omega (arith, crc-fits (content xs)) in high ∙ sym (behind 0)
-
-    pub get_d_low : crc (content xs) % 256 ≡ get_or (block xs) 510 0
-    unfolding octets
-    get_d_low = sym (behind 1)
+    -- the CRC's two octets, and the last byte
+    pub told-block : take 2 (drop checked (block xs)) ≡ octets 2 (crc (content xs))
+    told-block =
+        ap (take 2) drop_block ∙ take_at (octets 2 (crc (content xs))) (last_byte ∷ []) 2 (length-octets 2 (crc (content xs)))
 
     pub get_d_last : get_or (block xs) 511 0 ≡ last_byte
     unfolding octets

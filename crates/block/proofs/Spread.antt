@@ -5,7 +5,7 @@ use Prim.Native.Nat.{ℕ, zero, suc, ◌+◌, ◌*◌, ◌≤◌, ◌<◌}
 use native.Mathlib.Nat.{not-suc-le-zero, le_of_suc-le-suc}
 use native.Mathlib.Omega.{arith}
 use lib.ListN.{length, take, drop, get_or, length-append, length-take, length-drop}
-use lib.Seq.{take_at, drop_at, drop-append-add, take-add, drop-drop, length-take-le}
+use lib.Seq.{take_at, drop_at, drop-append-add, take-add, length-take-le}
 use Rattle.octets.specs.Octets.{octets, value, AreOctets}
 use Rattle.octets.proofs.OctetLaws.{length-octets, octets-octets, take-octets, drop-octets, append-octets, value-fits}
 use Rattle.octets.proofs.Correspondence.{octets-one_to_one}
@@ -42,15 +42,6 @@ pub length-gathered : (k : ℕ) (os : List ℕ) → length (gathered k os) ≡ k
 unfolding gathered
 length-gathered zero os = refl
 length-gathered (suc k) os = ap suc (length-gathered k (drop address_bytes os))
-
-pub get_d_gathered : (k : ℕ) (os : List ℕ) (i : ℕ) → i < k → get_or (gathered k os) i 0 ≡ value (take address_bytes (drop (address_bytes * i) os))
-unfolding gathered
-get_d_gathered zero os i h = absurd (not-suc-le-zero h)
-get_d_gathered (suc k) os zero h = refl
-get_d_gathered (suc k) os (suc i) h =
-    let next : address_bytes + address_bytes * i ≡ address_bytes * suc i = omega arith in
-    get_d_gathered k (drop address_bytes os) i (le_of_suc-le-suc h)
-    ∙ ap (λ (l : List ℕ). value (take address_bytes l)) (drop-drop (address_bytes * i) address_bytes os ∙ ap (λ (n : ℕ). drop n os) next)
 
 pub gathered-words : (k : ℕ) (os : List ℕ) → AreOctets os → AreWords (gathered k os)
 unfolding gathered

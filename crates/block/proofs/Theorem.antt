@@ -6,10 +6,9 @@ use mathlib.Core.List.{List, [], ◌∷◌, ◌++◌, append_assoc}
 use Prim.Native.Nat.{ℕ, zero, suc, ◌-◌, ◌≤◌}
 use native.Mathlib.Omega.{arith}
 use lib.Dec.{lit<}
-use lib.ListN.{length, take, get_or, replicate}
-use lib.Seq.{take_at}
+use lib.ListN.{length, get_or, replicate}
 use Rattle.octets.specs.Octets.{octets, value, AreOctets}
-use Rattle.octets.proofs.OctetLaws.{length-octets, octets-octets, append-octets}
+use Rattle.octets.proofs.OctetLaws.{octets-octets, append-octets}
 use Rattle.octets.proofs.Correspondence.{octets-one_to_one}
 use Rattle.crc.specs.Crc.{crc}
 use Rattle.crc.proofs.ShiftLaws.{crc-fits}
@@ -19,7 +18,7 @@ use Rattle.block.specs.Blocks.{AreWords, IsCount, IsBlockOf, Blocks}
 use Rattle.block.proofs.Zeros.{all_are_of_replicate}
 use Rattle.block.proofs.Cases.{is_block_true, true_is_block}
 use Rattle.block.proofs.Spread.{spread-octets, gathered-spread}
-use Rattle.block.proofs.Parts.{zeros_of, tail, part-zeros, length-block, take-block, drop_block, get_d_last}
+use Rattle.block.proofs.Parts.{zeros_of, tail, part-zeros, length-block, take-block, told-block, get_d_last}
 use Rattle.block.proofs.Accepted.{right-block}
 use Rattle.block.proofs.Laws.{length-addresses_in, addresses_in-fits}
 
@@ -48,11 +47,10 @@ module _ (xs : List ℕ) (few : length xs ≤ most_addresses) where
   unfolding block content
   zeros-block = ap (all_are 0) (part-zeros xs (tail (content xs))) ∙ all_are_of_replicate 0 (checked - addresses_end (length xs))
 
-  told-block : told_in (block xs) ≡ crc_in (block xs)
-  told-block =
+  agreed-block : told_in (block xs) ≡ crc_in (block xs)
+  agreed-block =
       let c = crc (content xs) in
-      ap (λ (l : List ℕ). value (take 2 l)) (drop_block xs few)
-      ∙ ap value (take_at (octets 2 c) (last_byte ∷ []) 2 (length-octets 2 c))
+      ap value (told-block xs few)
       ∙ (octets-one_to_one.held 2 c (crc-fits (content xs))).2
       ∙ ap crc (sym (take-block xs few))
 
@@ -62,7 +60,7 @@ module _ (xs : List ℕ) (few : length xs ≤ most_addresses) where
     first = first_block;
     count = subst (λ (n : ℕ). IsCount n) (sym count-block) (some, few);
     zeros = zeros-block;
-    check = told-block;
+    check = agreed-block;
     last = get_d_last xs few;
   })
 

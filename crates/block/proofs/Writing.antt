@@ -1,15 +1,17 @@
 -- What each store and each call of the writer leaves: the beginning of the block, further with each, and the block at the end. Assumes nothing.
 use mathlib.Core.Path.{◌≡◌, refl, sym, ap, ◌∙◌}
 use mathlib.Core.List.{List, [], append-nil}
-use Prim.Native.Nat.{ℕ, ◌-◌, ◌/◌, ◌%◌, ◌≤◌}
+use Prim.Native.Nat.{ℕ, ◌-◌, ◌≤◌}
 use native.Mathlib.Omega.{arith}
 use borrow.Rule.Slice.PartMut.{put_mid}
 use lib.ListN.{length, take, drop, set, length-set, length-replicate}
 use lib.Seq.{take_all}
+use Rattle.octets.specs.Octets.{octets}
+use Rattle.octets.proofs.OctetLaws.{length-octets}
 use Rattle.crc.specs.Crc.{crc}
 use Rattle.block.specs.Block.{slot_bytes, most_addresses, first_byte, last_byte, checked, addresses_at, addresses_end, spread, content, block}
 use Rattle.block.proofs.Spread.{length-spread}
-use Rattle.block.proofs.Parts.{zeros_of, length-content, part-addresses, part-zeros, length-block, take-block, get_d_high, get_d_low, get_d_last}
+use Rattle.block.proofs.Parts.{zeros_of, length-content, part-addresses, part-zeros, length-block, take-block, told-block, get_d_last}
 use Rattle.block.proofs.Filling.{filled_more, filled_part, length_filled_part, filled_all}
 
 module _ (xs : List ℕ) (few : length xs ≤ most_addresses) where
@@ -56,19 +58,14 @@ module _ (xs : List ℕ) (few : length xs ≤ most_addresses) where
       (e ∙ sym (take_all checked (content xs) (omega (arith, length-content xs few))))
       ∙ take_all checked (content xs) (omega (arith, length-content xs few))
 
-  pub tail-block : (slot : List ℕ) (check : ℕ) → length slot ≡ slot_bytes → take checked slot ≡ content xs → check ≡ crc (content xs)
-      → set (set (set slot 509 (check / 256)) 510 (check % 256)) 511 last_byte ≡ block xs
-  tail-block slot check size begun e =
-      let high = check / 256 in
-      let low = check % 256 in
+  pub tail-block : (slot told : List ℕ) → length slot ≡ slot_bytes → take checked slot ≡ content xs → told ≡ octets 2 (crc (content xs))
+      → set (put_mid checked 2 slot told) 511 last_byte ≡ block xs
+  tail-block slot told size begun e =
+      let two : length told ≡ 2 = ap length e ∙ length-octets 2 (crc (content xs)) in
       let same : length slot ≡ length (block xs) = size ∙ sym (length-block xs few) in
-      let long₁ = length-set slot 509 high in
-      let long₂ = length-set (set slot 509 high) 510 low in
-      let long₃ = length-set (set (set slot 509 high) 510 low) 511 last_byte in
-      let begins = begun ∙ sym (take-block xs few) in
-      let step₁ = filled_more slot (block xs) 509 high same (omega arith) begins (ap (λ (c : ℕ). c / 256) e ∙ get_d_high xs few) in
-      let step₂ =
-      filled_more (set slot 509 high) (block xs) 510 low (long₁ ∙ same) (omega arith) step₁ (ap (λ (c : ℕ). c % 256) e ∙ get_d_low xs few) in
-      let step₃ =
-      filled_more (set (set slot 509 high) 510 low) (block xs) 511 last_byte (long₂ ∙ long₁ ∙ same) (omega arith) step₂ (sym (get_d_last xs few)) in
-      filled_all (set (set (set slot 509 high) 510 low) 511 last_byte) (block xs) 512 (long₃ ∙ long₂ ∙ long₁ ∙ same) (omega arith) step₃
+      let long₁ = length_filled_part slot told checked 511 (omega arith) (omega arith) two in
+      let long₂ = length-set (put_mid checked 2 slot told) 511 last_byte in
+      let step₁ =
+      filled_part slot (block xs) told checked 511 (omega arith) (omega arith) two (begun ∙ sym (take-block xs few)) (e ∙ sym (told-block xs few)) in
+      let step₂ = filled_more (put_mid checked 2 slot told) (block xs) 511 last_byte (long₁ ∙ same) (omega arith) step₁ (sym (get_d_last xs few)) in
+      filled_all (set (put_mid checked 2 slot told) 511 last_byte) (block xs) 512 (long₂ ∙ long₁ ∙ same) (omega arith) step₂

@@ -1,33 +1,19 @@
--- The test that all bytes are one, byte by byte from a place on, and what it says: that byte, as often as there are bytes. Assumes nothing.
-use mathlib.Core.Path.{◌≡◌, refl, sym, ap, ap₂, ◌∙◌}
-use mathlib.Core.Bool.{Bool, true, false, ◌&&◌, and-eq-true_iff}
+-- The test that all bytes are one, as the test of each, and what it says: that byte, as often as there are bytes. Assumes nothing.
+use mathlib.Core.Path.{◌≡◌, refl, ap, ap₂}
+use mathlib.Core.Bool.{Bool, true, ◌&&◌, and-eq-true_iff}
 use mathlib.Core.List.{List, [], ◌∷◌}
-use Prim.Native.Nat.{ℕ, zero, suc, ◌+◌, ◌≤◌, ◌<◌}
-use native.Mathlib.Numerals.{add-one}
+use Prim.Native.Nat.{ℕ, zero, suc}
 use lib.Dec.{eqb}
-use lib.ListN.{length, get_or, drop, replicate, drop_of_length-le}
-use lib.Seq.{drop-cons}
-use borrow.Author.Tests.{eq-eqb, ne_eqb, eqb-true}
+use lib.ListN.{length, replicate}
+use borrow.Author.Tests.{eq-eqb, eqb-true}
+use Rattle.std.specs.List.{list_all}
 use Rattle.block.specs.Block.{all_are}
 
--- from a place on
-module _ (o : ℕ) (bs : List ℕ) (i : ℕ) where
-  all_are-drop : i < length bs → all_are o (drop i bs) ≡ (eqb (get_or bs i 0) o && all_are o (drop (suc i) bs))
-  unfolding all_are
-  all_are-drop h = ap (all_are o) (drop-cons bs i 0 h)
-
-  pub all_are_other : i < length bs → (get_or bs i 0 ≡ o → ⊥) → all_are o (drop i bs) ≡ false
-  all_are_other h n = all_are-drop h ∙ ap (λ (t : Bool). t && all_are o (drop (suc i) bs)) (ne_eqb (get_or bs i 0) o n)
-
-  pub all_are_same : i < length bs → get_or bs i 0 ≡ o → all_are o (drop i bs) ≡ all_are o (drop (i + 1) bs)
-  all_are_same h e =
-      all_are-drop h
-      ∙ ap (λ (t : Bool). t && all_are o (drop (suc i) bs)) (eq-eqb (get_or bs i 0) o e)
-      ∙ ap (λ (k : ℕ). all_are o (drop k bs)) (sym (add-one i))
-
-  pub all_are-end : length bs ≤ i → all_are o (drop i bs) ≡ true
-  unfolding all_are
-  all_are-end h = ap (all_are o) (drop_of_length-le bs h)
+-- the test of each byte
+pub all_are_by_all : (o : ℕ) (bs : List ℕ) → all_are o bs ≡ list_all (λ b. eqb b o) bs
+unfolding all_are
+all_are_by_all o [] = refl
+all_are_by_all o (b ∷ bs) = ap (λ (t : Bool). eqb b o && t) (all_are_by_all o bs)
 
 -- the byte alone
 pub all_are_of_replicate : (o k : ℕ) → all_are o (replicate k o) ≡ true

@@ -1,7 +1,7 @@
 // A block of the journal, put into a slot, and whether a slot holds a right one: specs/Block.antt has the format.
 #![tactic(auto)]
 
-ghost use Rattle.std.specs.Prelude.{◌≡◌, ◌*◌, ◌≤◌, length, replicate};
+ghost use Rattle.std.specs.Prelude.{◌≡◌, ◌*◌, ◌≤◌, length};
 ghost use Rattle.octets.specs.Octets.{octets};
 ghost use Rattle.block.specs.Block.{most_addresses, checked, address_bytes, spread, content, block_put, all_are, is_block};
 
@@ -24,20 +24,15 @@ const CHECKED: usize = 509;
 const LAST_AT: usize = 511;
 
 // Whether all bytes are this one.
+#[tactic(auto, using(crate::proofs::Zeros::all_are_by_all))]
 pub fn all_are(byte: u8, bytes: &[u8]) -> bool
     ensures { result ≡ all_are byte bytes.now }
 {
-    let mut i = 0;
-    while i < bytes.len() {
-        if bytes[i] != byte {
-            return false;
-        }
-        i += 1;
-    }
-    true
+    bytes.iter().all(|b| *b == byte)
 }
 
 // Whether a slot holds a right block.
+#[tactic(auto, unfolding(crate::specs::Block::is_block, crate::specs::Block::is_count))]
 pub fn is_block(slot: &[u8]) -> bool
     ensures { result ≡ is_block slot.now }
 {
@@ -65,41 +60,15 @@ pub fn is_block(slot: &[u8]) -> bool
     slot[LAST_AT] == LAST_BYTE
 }
 
-// Fills eight bytes with an address, from the first byte to the last, high octet first.
-fn put_address(address: u64, out: &mut [u8])
-    requires { length out.old ≡ address_bytes }
-    ensures { out.new ≡ octets address_bytes address }
-{
-    let mut rest = address;
-    let mut i = 0;
-    while i < out.len() {
-        out[i] = (rest / 0x100_0000_0000_0000) as u8;
-        rest = rest % 0x100_0000_0000_0000 * 256;
-        i += 1;
-    }
-}
-
-// Fills eight bytes for each address, in the order given.
+// Fills eight bytes for each address, in the order given, high octet first.
 fn put_addresses(addresses: &[u64], out: &mut [u8])
     requires { length out.old ≡ address_bytes * length addresses.now }
     ensures { out.new ≡ spread addresses.now }
 {
-    let mut i = 0;
-    while i < addresses.len() {
+    // By index: of what goes through `zip` with `chunks_exact_mut` a proof knows no element.
+    for (i, address) in addresses.iter().enumerate() {
         let at = ADDRESS_BYTES * i;
-        put_address(addresses[i], &mut out[at..at + ADDRESS_BYTES]);
-        i += 1;
-    }
-}
-
-// Fills the bytes with zeros.
-fn put_zeros(out: &mut [u8])
-    ensures { out.new ≡ replicate (length out.old) 0 }
-{
-    let mut at = 0;
-    while at < out.len() {
-        out[at] = 0;
-        at += 1;
+        out[at..at + ADDRESS_BYTES].copy_from_slice(&address.to_be_bytes());
     }
 }
 
@@ -113,10 +82,11 @@ fn put_content(addresses: &[u64], out: &mut [u8])
     out[0] = FIRST_BYTE;
     out[1] = count as u8;
     put_addresses(addresses, &mut out[ADDRESSES_AT..end]);
-    put_zeros(&mut out[end..CHECKED]);
+    out[end..CHECKED].fill(0);
 }
 
-// Puts the block of these addresses into a lent slot, its bytes in order, from 0 to 511.
+// Puts the block of these addresses into a lent slot, part behind part, from byte 0 to byte 511.
+#[tactic(auto, unfolding(crate::specs::Block::block_put, crate::specs::Block::is_count))]
 pub fn put(addresses: &[u64], slot: &mut [u8])
     ensures { slot.new ≡ block_put addresses.now slot.old }
 {
@@ -131,7 +101,6 @@ pub fn put(addresses: &[u64], slot: &mut [u8])
     }
     put_content(addresses, &mut slot[0..CHECKED]);
     let check = crc::crc(&slot[0..CHECKED]);
-    slot[CHECKED] = (check / 256) as u8;
-    slot[CHECKED + 1] = (check % 256) as u8;
+    slot[CHECKED..LAST_AT].copy_from_slice(&check.to_be_bytes());
     slot[LAST_AT] = LAST_BYTE;
 }

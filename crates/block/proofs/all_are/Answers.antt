@@ -1,15 +1,13 @@
--- `block::all_are` meets its contract: after i bytes the test of all is the test of those from i on. Assumes nothing.
-use Rattle.std.proofs.Common.{sym, ◌∙◌, arith}
-use Rattle.block.proofs.Zeros.{all_are_other, all_are_same, all_are-end}
+-- `block::all_are` meets its contract: the test of all is the test of each. Assumes nothing.
+use Rattle.std.proofs.Common.{eqb, sym, ◌∙◌, rules, tests}
+use Rattle.std.proofs.lemmas.Iterator.{YieldsList-from_slice}
+use Rattle.std.proofs.lemmas.Iterator.Search.{all_from_yields_List}
+use Rattle.block.proofs.Zeros.{all_are_by_all}
 use Rattle.block.proofs.all_are.Goals as goal
 
-pub returns-then-bytes-i : goal.returns-then-bytes-i
-returns-then-bytes-i c =
-    sym (c.loop-i.invariant.1 ∙ all_are_other c.args.byte c.args.bytes.now c.loop-i.i c.loop-i-test.true c.if-bytes-i.true)
-
-pub loop-i-preserved : goal.loop-i-preserved
-loop-i-preserved c =
-    (omega arith, c.loop-i.invariant.1 ∙ all_are_same c.args.byte c.args.bytes.now c.loop-i.i c.loop-i-test.true c.if-bytes-i.false)
-
 pub returns : goal.returns
-returns c = sym (c.loop-i.invariant.1 ∙ all_are-end c.args.byte c.args.bytes.now c.loop-i.i c.loop-i-test.false)
+returns c =
+    let byte = c.args.byte in
+    let bytes = c.args.bytes.now in
+    all_from_yields_List (λ b. eqb b byte) _ _ _ c.all.ensures.ran (YieldsList-from_slice bytes cc) (λ x b q k. search (rules, tests))
+    ∙ sym (all_are_by_all byte bytes)

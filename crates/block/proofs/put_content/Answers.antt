@@ -1,6 +1,6 @@
 -- `block::put_content` meets its contract: the bytes are those of `content` from the first on, further with each store and each call. Assumes
 -- nothing.
-use Rattle.std.proofs.Common.{◌≡◌, ℕ, ◌-◌, List, length, replicate, ap, ◌∙◌, arith}
+use Rattle.std.proofs.Common.{◌≡◌, ℕ, ◌-◌, List, length, replicate, ap, ◌∙◌, arith, rules}
 use Rattle.std.proofs.Math.ListN.{set, length-set}
 use borrow.Rule.Slice.PartMut.{put_mid, mid_len}
 use Rattle.block.specs.Block.{checked, addresses_at, addresses_end, first_byte}
@@ -22,6 +22,6 @@ returns c =
     length-set (set c.args.out.now 0 first_byte) 1 (length xs) ∙ length-set c.args.out.now 0 first_byte ∙ room in
     let many : length put ≡ end - addresses_at = omega (arith, ap length c.put_addresses.ensures, length-spread xs) in
     let whole : length addressed ≡ checked = length_filled_part begun put addresses_at end (omega arith) (omega arith) many ∙ long in
-    zeros-content xs few addressed c.put_zeros.new.out whole
+    zeros-content xs few addressed c.fill.new.self whole
     (addresses-content xs few begun put long (begun-content xs few c.args.out.now room) c.put_addresses.ensures)
-    (c.put_zeros.ensures ∙ ap (λ (k : ℕ). replicate k 0) (mid_len end checked addressed (omega arith)))
+    (c.fill.ensures.after (search rules) ∙ ap (λ (k : ℕ). replicate k 0) (mid_len end checked addressed (omega arith)))
