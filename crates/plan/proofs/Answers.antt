@@ -10,7 +10,7 @@ use Rattle.address.specs.declared.Kind.{Kind}
 use Rattle.address.specs.declared.Kind.TheVariants.{Router, Host}
 use Rattle.node.specs.Node.{fresh, child_of}
 use Rattle.node.specs.declared.Node.{Node}
-use Rattle.node.specs.declared.Given.{Given}
+use Rattle.node.specs.Node.{Given}
 use Rattle.node.proofs.RefusalLaws.{child-refusals}
 use Rattle.plan.specs.Grammar.{Items, none, host, router}
 use Rattle.plan.specs.Hall.{child_in, answers, hall, items, nodes, refusal_of}

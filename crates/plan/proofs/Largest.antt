@@ -16,7 +16,7 @@ use Rattle.address.specs.declared.Kind.{Kind}
 use Rattle.address.specs.declared.Kind.TheVariants.{Router, Host}
 use Rattle.node.specs.Node.{address_in, fresh, count, with_counts, raised, child_bits, child_of}
 use Rattle.node.specs.declared.Node.{Node}
-use Rattle.node.specs.declared.Given.{Given}
+use Rattle.node.specs.Node.{Given}
 use Rattle.node.proofs.ChildLaws.{length-child_bits}
 use Rattle.node.proofs.Children.{address_in-fresh, count-fresh, count-raised, below-no_cap, MayGive, child_of-given}
 use Rattle.node.proofs.GivenChildren.{gives-children}

@@ -8,17 +8,16 @@ use mathlib.Core.List.{List, [], ◌∷◌, ◌++◌, Memᴰ}
 use Prim.Native.Nat.{ℕ, zero, suc, ◌+◌, ◌≤◌, ◌<◌}
 use native.Mathlib.Omega.{arith}
 use lib.ListN.{length}
+use Rattle.std.proofs.Common.{nat_eq}
+use mir.Val.{bool_byte}
+use borrow.Author.Tests.{ne_eqb}
 use Rattle.plan.specs.Plan.{missing}
 
-pub missing-zero : (a : ℕ) (others : List ℕ) → a ≡ 0 → missing (a ∷ others) ≡ suc (missing others)
+-- whether an address is missing, as the code counts it
+pub missing_one : (a : ℕ) → missing (a ∷ []) ≡ bool_byte (nat_eq a 0)
 unfolding missing
-missing-zero zero others e = refl
-missing-zero (suc a) others e = absurd (omega arith)
-
-pub missing-some : (a : ℕ) (others : List ℕ) → (a ≡ 0 → ⊥) → missing (a ∷ others) ≡ missing others
-unfolding missing
-missing-some zero others h = absurd (h refl)
-missing-some (suc a) others h = refl
+missing_one zero = refl
+missing_one (suc a) = rw (ne_eqb (suc a) 0 (λ z. omega arith)) refl
 
 pub missing-le : (given : List ℕ) → missing given ≤ length given
 unfolding missing

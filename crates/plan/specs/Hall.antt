@@ -5,7 +5,7 @@ use Rattle.address.specs.Bits.{root}
 use Rattle.address.specs.declared.Kind.TheVariants.{Router, Host}
 use Rattle.node.specs.Node.{fresh, child_of}
 use Rattle.node.specs.declared.Node.{Node}
-use Rattle.node.specs.declared.Given.{Given}
+use Rattle.node.specs.Node.{Given}
 use Rattle.plan.specs.Grammar.{Items, none, host, router}
 
 abbrev pub child_in : Given → ℕ

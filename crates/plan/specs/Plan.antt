@@ -3,7 +3,24 @@
 use Rattle.std.specs.Prelude.{ℕ, zero, suc, List, [], ◌∷◌, ◌++◌, length, drop, ltb, if◌then◌else◌}
 use Rattle.plan.specs.Limits.{most_bytes, most_nodes}
 use Rattle.plan.specs.Reading.{Reading, whole, fault_at, reading}
-pub use Rattle.plan.specs.declared.Planned.{Planned}
+use Rattle.std.specs.Prelude.{Result, Ok, Err}
+use Rattle.plan.specs.declared.PlanRefusal.{PlanRefusal}
+use Rattle.plan.specs.declared.PlanRefusal.TheVariants.{TooMany, Grammar, TooLong, NoRoom}
+
+-- What the reading of a plan answers: a refusal's number, 0 where the hall is listed; its nodes; and with 13 the place of the fault. The numbers that
+-- do not belong to the answer are 0.
+pub record Planned : Type 0 where
+  pub refusal : ℕ
+  pub nodes : ℕ
+  pub place : ℕ
+
+-- the papers' numbers for each case of the answer
+abbrev pub planned_answer : Result ℕ PlanRefusal → Planned
+planned_answer (Ok nodes) = record { refusal = 0; nodes = nodes; place = 0 }
+planned_answer (Err TooMany) = record { refusal = 14; nodes = 0; place = 0 }
+planned_answer (Err (Grammar place)) = record { refusal = 13; nodes = 0; place = place }
+planned_answer (Err TooLong) = record { refusal = 3; nodes = 0; place = 0 }
+planned_answer (Err NoRoom) = record { refusal = 10; nodes = 0; place = 0 }
 
 -- What the reading of a plan comes to: the answer, and what the lent words hold at the end.
 pub record PlanEffect : Type 0 where

@@ -28,8 +28,11 @@ pub record PartRead (text words after : List ℕ) (from to : Progress) (allowed 
   pub forth : from.place + length given ≤ to.place
   pub within : to.place ≤ length text
   pub reads : (up : List Node) → length up + 1 + allowed ≡ most_groups
-      → read_from from.place (before up) (drop from.place text)
-      ≡ (if to.stopped then fault_at to.place else behind given (read_from to.place (behind_it up) (drop to.place text)))
+      → read_from from.place (before up) (drop from.place text) ≡ behind given (read_from to.place (behind_it up) (drop to.place text))
+
+-- a text that, read from a place on, has a fault at another
+pub record PartStops (text : List ℕ) (from at allowed : ℕ) (before : List Node → Expected) : Type 0 where
+  pub reads : (up : List Node) → length up + 1 + allowed ≡ most_groups → read_from from (before up) (drop from text) ≡ fault_at at
 
 -- the whole text, read
 pub record HallRead (text words after : List ℕ) (to : Progress) : Type 0 where
@@ -37,4 +40,4 @@ pub record HallRead (text words after : List ℕ) (to : Progress) : Type 0 where
   pub nodes : to.nodes ≡ length given
   pub missed : to.missing ≡ missing given
   pub stored : after ≡ sets words 0 given
-  pub reads : reading text ≡ (if to.stopped then fault_at to.place else whole given)
+  pub reads : reading text ≡ whole given

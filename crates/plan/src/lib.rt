@@ -1,21 +1,18 @@
 // A hall's plan, read into lent words: specs/Grammar.antt has the text, specs/Hall.antt the addresses, specs/Plan.antt the refusals.
 #![tactic(auto)]
 
-ghost use Rattle.std.specs.Prelude.{◌≡◌, true, false, ◌∷◌, [], ◌+◌, ◌<◌, ◌≤◌, ◌^◌, length, drop, set, get_or};
+ghost use Rattle.std.specs.Prelude.{◌≡◌, ◌∷◌, [], ◌+◌, ◌<◌, ◌≤◌, ◌^◌, length, drop, set, get_or, IfOk, IfErr, Err};
 ghost use Rattle.plan.specs.Grammar.{closing};
-ghost use Rattle.plan.specs.Reading.{inside};
-ghost use Rattle.plan.specs.Plan.{missing, planning};
-ghost use Rattle.plan.specs.Progress.{matched, PartRead, HallRead};
+ghost use Rattle.plan.specs.Reading.{inside, fault_at, reading};
+ghost use Rattle.plan.specs.Plan.{missing, planned_answer, planning};
+ghost use Rattle.plan.specs.declared.PlanRefusal.TheVariants.{Grammar};
+ghost use Rattle.node.specs.Node.{given_answer};
+ghost use Rattle.refusal.specs.Refusal.{number_of};
+ghost use Rattle.plan.specs.Progress.{matched, PartRead, PartStops, HallRead};
 
 use address::{Address, Kind};
-use node::Node;
-
-// Refusals: "a text outside the grammar"; "text over [32,768] bytes" and "over [4,096] nodes"; "no room".
-pub const BAD_PLAN: u8 = 13;
-
-pub const TOO_MANY: u8 = 14;
-
-pub const NO_ROOM: u8 = 10;
+use node::{Handed, Node};
+use refusal::Refusal;
 
 // How large a plan may be: bytes of its text, nodes with the root, and groups open at once.
 pub const MOST_BYTES: usize = 32768;
@@ -24,23 +21,49 @@ pub const MOST_NODES: usize = 4096;
 
 const MOST_GROUPS: u32 = 64;
 
-// What the reading of a plan answers: a refusal's number, 0 where the hall is listed; its nodes; and with BAD_PLAN the place of the fault. The
-// numbers that do not belong to the answer are 0.
-#[derive(Clone, Copy)]
-pub struct Planned {
-    pub refusal: u8,
-    pub nodes: usize,
-    pub place: usize,
+// Why a plan is not read: it has too many bytes or nodes; its text is outside the grammar, from a place on; an address would be too long; or there
+// is no room for the addresses.
+#[derive(Clone, Copy, Debug, PartialEq, Eq)]
+pub enum PlanRefusal {
+    TooMany,
+    Grammar { place: usize },
+    TooLong,
+    NoRoom,
 }
 
-// How far the text is read: the place of the next byte, or of the fault where it has stopped; the nodes before it; and how many of them have
-// no address, since it would be too long.
+impl From<PlanRefusal> for Refusal {
+    ghost from_gives = { λ p r. number_of r ≡ (planned_answer (Err p)).refusal };
+
+    fn from(refusal: PlanRefusal) -> Refusal {
+        match refusal {
+            PlanRefusal::TooMany => Refusal::TooMany,
+            PlanRefusal::Grammar { .. } => Refusal::BadPlan,
+            PlanRefusal::TooLong => Refusal::TooLong,
+            PlanRefusal::NoRoom => Refusal::NoRoom,
+        }
+    }
+}
+
+// How far the text is read: the place of the next byte, the nodes before it, and how many of them have no address, since it would be too long.
 #[derive(Clone, Copy)]
 struct Progress {
     place: usize,
     nodes: usize,
     missing: usize,
-    stopped: bool,
+}
+
+// The place at which the text stops being the start of any plan.
+#[derive(Clone, Copy)]
+struct Fault {
+    place: usize,
+}
+
+impl From<Fault> for PlanRefusal {
+    ghost from_gives = { λ f p. p ≡ Grammar f.place };
+
+    fn from(fault: Fault) -> PlanRefusal {
+        PlanRefusal::Grammar { place: fault.place }
+    }
 }
 
 // What an item leaves: the progress, and the record of the group's node as it stands behind the item.
@@ -50,7 +73,7 @@ struct AfterItem {
     node: Node,
 }
 
-// Stores a word, where there is room for it.
+// Stores a word, where there is room for it. By index: of what `get_mut` lends a proof knows no element afterwards.
 fn put(at: usize, word: u64, words: &mut [u64])
     ensures { words.new ≡ set words.old at word }
 {
@@ -59,207 +82,157 @@ fn put(at: usize, word: u64, words: &mut [u64])
     }
 }
 
-// A fault at a place.
-fn stop(from: Progress, place: usize) -> Progress
-    ensures { result ≡ record { place = place; nodes = from.nodes; missing = from.missing; stopped = true } }
-{
-    Progress {
-        place,
-        nodes: from.nodes,
-        missing: from.missing,
-        stopped: true,
+impl Progress {
+    // One node more, the bytes that name it read.
+    #[tactic(auto, using(crate::proofs::Missing::missing_one))]
+    fn named(self, place: usize, address: Address) -> Progress
+        requires { (self.nodes + 1 < 2 ^ 64) × (self.missing + 1 < 2 ^ 64) }
+        ensures { result ≡ record { place = place; nodes = self.nodes + 1; missing = self.missing + missing (address.number ∷ []) } }
+    {
+        Progress {
+            place,
+            nodes: self.nodes + 1,
+            missing: self.missing + (address.number == 0) as usize,
+        }
     }
 }
 
-// The bytes before a place read.
-fn pass(from: Progress, place: usize) -> Progress
-    ensures { result ≡ record { place = place; nodes = from.nodes; missing = from.missing; stopped = false } }
-{
-    Progress {
-        place,
-        nodes: from.nodes,
-        missing: from.missing,
-        stopped: false,
-    }
-}
-
-// 1 where an address is missing.
-fn absent(address: u64) -> usize
-    ensures { result ≡ missing (address ∷ []) }
-{
-    if address == 0 {
-        return 1;
-    }
-    0
-}
-
-// One node more, the bytes that name it read.
-fn count(from: Progress, place: usize, address: u64) -> Progress
-    requires { (from.nodes + 1 < 2 ^ 64) × (from.missing + 1 < 2 ^ 64) }
-    ensures { result ≡ record { place = place; nodes = from.nodes + 1; missing = from.missing + missing (address ∷ []); stopped = false } }
-{
-    Progress {
-        place,
-        nodes: from.nodes + 1,
-        missing: from.missing + absent(address),
-        stopped: false,
-    }
-}
-
-// How much of "R(" stands at a place: the place behind it, or that of the byte which differs or is missing.
-fn opened(text: &[u8], place: usize) -> usize
+// The place behind the "R(" that stands at a place, or that of the byte which differs or is missing.
+#[tactic(auto, unfolding(crate::specs::Progress::matched, crate::specs::Progress::matched_second))]
+fn opened(text: &[u8], place: usize) -> Result<usize, Fault>
     requires { place ≤ length text.now }
-    ensures { result ≡ place + matched (drop place text.now) }
+    ensures both { IfOk result (λ p. (p ≡ place + 2) × (matched (drop place text.now) ≡ 2)) }
+    ensures fault { IfErr result (λ f. (f.place ≡ place + matched (drop place text.now)) × (matched (drop place text.now) < 2)) }
 {
-    if text.len() <= place {
-        return place;
+    match &text[place..] {
+        [b'R', b'(', ..] => Ok(place + 2),
+        [b'R', ..] => Err(Fault { place: place + 1 }),
+        _ => Err(Fault { place }),
     }
-    if text[place] != b'R' {
-        return place;
-    }
-    let next = place + 1;
-    if text.len() <= next {
-        return next;
-    }
-    if text[next] != b'(' {
-        return next;
-    }
-    next + 1
+}
+
+// The address that an item is given, or zero: the text behind it is read all the same, and the address counted as missing.
+fn address_of(given: Handed<Address>) -> Address
+    ensures { result ≡ (given_answer given).child }
+{
+    given.outcome.unwrap_or(Address::of(0))
 }
 
 // "A group holds items and an item may hold a group": these two call each other, and with each group that an item opens there is one fewer that
-// may be open.
+// may be open. What they share goes from hand to hand: a struct of the text and the lent words would be lent anew at each call.
 
 // Reads an item of a group, with as many more groups allowed to be open.
 #[cycle(group_item)]
-fn item(text: &[u8], from: Progress, node: Node, allowed: u32, words: &mut [u64]) -> AfterItem
-    requires { (from.stopped ≡ false) × (from.place < length text.now) × (get_or text.now from.place 0 ≡ closing → ⊥) × (from.nodes ≤ from.place) × (from.missing ≤ from.nodes) }
-    ensures { PartRead text.now words.old words.new from result.progress allowed (λ up. inside (node ∷ up)) (λ up. inside (result.node ∷ up)) × (result.progress.stopped ≡ false → from.place < result.progress.place) }
+fn item(
+    text: &[u8],
+    from: Progress,
+    node: Node,
+    allowed: u32,
+    words: &mut [u64],
+) -> Result<AfterItem, Fault>
+    requires { (from.place < length text.now) × (get_or text.now from.place 0 ≡ closing → ⊥) × (from.nodes ≤ from.place) × (from.missing ≤ from.nodes) }
+    ensures read { IfOk result (λ to. PartRead text.now words.old words.new from to.progress allowed (λ up. inside (node ∷ up)) (λ up. inside (to.node ∷ up)) × (from.place < to.progress.place)) }
+    ensures fault { IfErr result (λ f. PartStops text.now from.place f.place allowed (λ up. inside (node ∷ up))) }
 {
     let place = from.place;
     if text[place] == b'H' {
         let given = node.child(Kind::Host);
-        let host = given.child;
-        let after = given.node;
+        let host = address_of(given);
         put(from.nodes, host.number, words);
-        return AfterItem {
-            progress: count(from, place + 1, host.number),
-            node: after,
-        };
+        return Ok(AfterItem {
+            progress: from.named(place + 1, host),
+            node: given.node,
+        });
     }
     if allowed == 0 {
-        return AfterItem {
-            progress: stop(from, place),
-            node,
-        };
+        return Err(Fault { place });
     }
-    let open = opened(text, place);
-    if open - place < 2 {
-        return AfterItem {
-            progress: stop(from, open),
-            node,
-        };
-    }
+    let open = opened(text, place)?;
     let given = node.child(Kind::Router);
-    let router = given.child;
-    let after = given.node;
+    let router = address_of(given);
     put(from.nodes, router.number, words);
-    let inner = count(from, open, router.number);
-    AfterItem {
-        progress: group(text, inner, Node::fresh(router), allowed - 1, words),
-        node: after,
-    }
+    let inner = from.named(open, router);
+    let progress = group(text, inner, Node::fresh(router), allowed - 1, words)?;
+    Ok(AfterItem {
+        progress,
+        node: given.node,
+    })
 }
 
 // Reads the items of a group up to its ")", with as many more groups allowed to be open.
 #[cycle(group_item)]
-fn group(text: &[u8], from: Progress, owner: Node, allowed: u32, words: &mut [u64]) -> Progress
-    requires { (from.stopped ≡ false) × (from.place ≤ length text.now) × (from.nodes ≤ from.place) × (from.missing ≤ from.nodes) }
-    ensures { PartRead text.now words.old words.new from result allowed (λ up. inside (owner ∷ up)) (λ up. inside up) }
+fn group(
+    text: &[u8],
+    from: Progress,
+    owner: Node,
+    allowed: u32,
+    words: &mut [u64],
+) -> Result<Progress, Fault>
+    requires { (from.place ≤ length text.now) × (from.nodes ≤ from.place) × (from.missing ≤ from.nodes) }
+    ensures read { IfOk result (λ to. PartRead text.now words.old words.new from to allowed (λ up. inside (owner ∷ up)) (λ up. inside up)) }
+    ensures fault { IfErr result (λ f. PartStops text.now from.place f.place allowed (λ up. inside (owner ∷ up))) }
 {
     let mut at = from;
     let mut node = owner;
-    let mut place = at.place;
-    while place < text.len() {
-        if text[place] == b')' {
-            return pass(at, place + 1);
+    while let Some(&byte) = text.get(at.place) {
+        if byte == b')' {
+            return Ok(Progress {
+                place: at.place + 1,
+                ..at
+            });
         }
-        let read = item(text, at, node, allowed, words);
+        let read = item(text, at, node, allowed, words)?;
         at = read.progress;
         node = read.node;
-        place = at.place;
-        if at.stopped {
-            return at;
-        }
     }
-    stop(at, place)
+    Err(Fault { place: at.place })
 }
 
 // Reads the whole text. An address that finds no room is counted all the same.
-fn hall(text: &[u8], words: &mut [u64]) -> Progress
-    ensures { HallRead text.now words.old words.new result }
+fn hall(text: &[u8], words: &mut [u64]) -> Result<Progress, Fault>
+    ensures read { IfOk result (λ to. HallRead text.now words.old words.new to) }
+    ensures fault { IfErr result (λ f. reading text.now ≡ fault_at f.place) }
 {
-    let begin = Progress {
-        place: 0,
-        nodes: 0,
+    let open = opened(text, 0)?;
+    put(0, Address::ROOT.number, words);
+    let root = Progress {
+        place: open,
+        nodes: 1,
         missing: 0,
-        stopped: false,
     };
-    let open = opened(text, 0);
-    if open < 2 {
-        return stop(begin, open);
+    let end = group(
+        text,
+        root,
+        Node::fresh(Address::ROOT),
+        MOST_GROUPS - 1,
+        words,
+    )?;
+    if end.place < text.len() {
+        return Err(Fault { place: end.place });
     }
-    let root = Address::ROOT;
-    put(0, root.number, words);
-    let named = count(begin, open, root.number);
-    let end = group(text, named, Node::fresh(root), MOST_GROUPS - 1, words);
-    if end.stopped {
-        return end;
-    }
-    let place = end.place;
-    if place < text.len() {
-        return stop(end, place);
-    }
-    end
+    Ok(end)
 }
 
-// A refusal, with its place.
-fn refuse(number: u8, place: usize) -> Planned
-    ensures { result ≡ record { refusal = number; nodes = 0; place = place } }
-{
-    Planned {
-        refusal: number,
-        nodes: 0,
-        place,
-    }
-}
-
-// Reads a plan: lists the addresses of its hall at the front of the words. A refusal leaves the words as they are, so the text is judged first,
-// over none of them.
-pub fn read(text: &[u8], words: &mut [u64]) -> Planned
-    ensures { (result ≡ (planning text.now words.old).answer) × (words.new ≡ (planning text.now words.old).words) }
+// Reads a plan: lists the addresses of its hall at the front of the words, and answers their number. A refusal leaves the words as they are, so the
+// text is judged first, over none of them.
+#[tactic(auto, using(crate::proofs::PlanLaws::front), unfolding(crate::specs::Plan::refuse_plan, crate::specs::Plan::listed, crate::specs::Plan::judged, crate::specs::Plan::planning))]
+pub fn read(text: &[u8], words: &mut [u64]) -> Result<usize, PlanRefusal>
+    ensures answer { planned_answer result ≡ (planning text.now words.old).answer }
+    ensures words { words.new ≡ (planning text.now words.old).words }
 {
     if MOST_BYTES < text.len() {
-        return refuse(TOO_MANY, 0);
+        return Err(PlanRefusal::TooMany);
     }
-    let judged = hall(text, &mut words[0..0]);
-    if judged.stopped {
-        return refuse(BAD_PLAN, judged.place);
-    }
-    let nodes = judged.nodes;
-    if MOST_NODES < nodes {
-        return refuse(TOO_MANY, 0);
+    let judged = hall(text, &mut [])?;
+    if MOST_NODES < judged.nodes {
+        return Err(PlanRefusal::TooMany);
     }
     if 0 < judged.missing {
-        return refuse(node::TOO_LONG, 0);
+        return Err(PlanRefusal::TooLong);
     }
-    if words.len() < nodes {
-        return refuse(NO_ROOM, 0);
+    if words.len() < judged.nodes {
+        return Err(PlanRefusal::NoRoom);
     }
-    hall(text, words);
-    Planned {
-        refusal: 0,
-        nodes,
-        place: 0,
-    }
+    let listed = hall(text, words)?;
+    Ok(listed.nodes)
 }
