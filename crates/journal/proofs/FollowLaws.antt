@@ -1,16 +1,20 @@
 -- What the functions inside recovery leave, exit by exit, and one address behind others. Assumes nothing.
 use Prim.Native.Nat.{ℕ, zero, suc, ◌+◌, ◌-◌, ◌≤◌, ◌<◌}
-use mathlib.Core.Path.{◌≡◌, refl, sym, ap, ◌∙◌}
+use mathlib.Core.Path.{◌≡◌, refl, sym, ap, ap₂, ◌∙◌}
 use mathlib.Core.Bool.{true}
-use mathlib.Core.List.{List}
+use mathlib.Core.List.{List, [], ◌∷◌, ◌++◌, map-id}
 use native.Mathlib.Omega.{arith}
-use lib.ListN.{length, take, drop, get_or, set, length-set}
-use lib.Seq.{length-take-le, take-suc-set, drop-set-lt, drop-drop, take_all}
+use lib.ListN.{take-append-drop, length, take, drop, set, length-set}
+use lib.Seq.{drop-cons, length-take-le, take-suc-set, drop-set-lt, drop-drop}
+use Rattle.std.specs.Prelude.{Option, Some, None}
+use Rattle.std.specs.Iterator.{Yields, AlwaysYields}
+use Rattle.std.proofs.lemmas.Iterator.{YieldsList}
+use Rattle.std.proofs.lemmas.Iterator.Consumers.{YieldsList-so_far, YieldsList-turn, YieldsList-end}
 use Rattle.journal.specs.Limits.{most_nodes}
 use Rattle.journal.specs.Replay.{Replay, known, fault, is_next, taken, next, follow}
 use Rattle.journal.specs.Recovery.{Recovered}
 use Rattle.journal.specs.Follows.{shown, Follows}
-use Rattle.journal.proofs.ReplayLaws.{taken-known, follow_snoc, follow-stops}
+use Rattle.journal.proofs.ReplayLaws.{taken-known, follow-append, follow-stops}
 
 -- nothing taken yet
 pub follows-none : (nodes : ℕ) (words : List ℕ) → nodes ≤ most_nodes → Follows (known (take nodes words)) nodes words words (record { refusal = 0; nodes = nodes })
@@ -57,25 +61,23 @@ follows_next r a nodes words mid after before answer f z g = record {
         ∙ ap (drop (k - before.nodes)) (f.kept z)
         ∙ drop-drop (k - before.nodes) before.nodes words ∙ ap (λ (n : ℕ). drop n words) rest
 
--- ---- the addresses of a list, up to a place
+-- ---- some addresses, one after the other
 
-pub follows-begin : (xs : List ℕ) (nodes : ℕ) (words : List ℕ) → nodes ≤ most_nodes
-    → Follows (follow (known (take nodes words)) (take 0 xs)) nodes words words (record { refusal = 0; nodes = nodes })
-unfolding follow
-follows-begin xs nodes words h = follows-none nodes words h
+module _ (ys : List ℕ) (a nodes : ℕ) (words mid after : List ℕ) (before answer : Recovered) (z : before.refusal ≡ 0)
+    (f : Follows (follow (known (take nodes words)) ys) nodes words mid before)
+    (g : Follows (taken (take before.nodes mid) a) before.nodes mid after answer) where
+  one : Follows (next (follow (known (take nodes words)) ys) a) nodes words after answer
+  one = follows_next _ a nodes words mid after before answer f z g
 
-module _ (xs : List ℕ) (nodes : ℕ) (words mid after : List ℕ) (before answer : Recovered) (i : ℕ) (within : i < length xs) (z : before.refusal ≡ 0)
-    (f : Follows (follow (known (take nodes words)) (take i xs)) nodes words mid before)
-    (g : Follows (taken (take before.nodes mid) (get_or xs i 0)) before.nodes mid after answer) where
   -- one address more
-  pub follows-turn : Follows (follow (known (take nodes words)) (take (i + 1) xs)) nodes words after answer
-  follows-turn =
-      let more : i + 1 ≡ suc i = omega arith in
-      rw more (rw (follow_snoc (known (take nodes words)) xs i within) (follows_next _ (get_or xs i 0) nodes words mid after before answer f z g))
+  pub follows-turn : Follows (follow (known (take nodes words)) (ys ++ (a ∷ []))) nodes words after answer
+  unfolding follow
+  follows-turn = rw (follow-append (known (take nodes words)) ys (a ∷ [])) one
 
   -- a fault at this address
-  pub follows-stop : (answer.refusal ≡ 0 → ⊥) → Follows (follow (known (take nodes words)) xs) nodes words after answer
-  follows-stop ne = record {
+  pub follows-stop : (xs rest : List ℕ) → xs ≡ ys ++ (a ∷ rest) → (answer.refusal ≡ 0 → ⊥)
+      → Follows (follow (known (take nodes words)) xs) nodes words after answer
+  follows-stop xs rest e ne = record {
     same = one.same;
     forth = one.forth;
     within = one.within;
@@ -83,18 +85,35 @@ module _ (xs : List ℕ) (nodes : ℕ) (words mid after : List ℕ) (before answ
     shows = stops answer.refusal ne one.shows;
   }
     where
-      one : Follows (next (follow (known (take nodes words)) (take i xs)) (get_or xs i 0)) nodes words after answer
-      one = follows_next _ (get_or xs i 0) nodes words mid after before answer f z g
-
-      stops : (k : ℕ) → (k ≡ 0 → ⊥) → next (follow (known (take nodes words)) (take i xs)) (get_or xs i 0) ≡ shown k (take answer.nodes after)
+      stops : (k : ℕ) → (k ≡ 0 → ⊥) → next (follow (known (take nodes words)) ys) a ≡ shown k (take answer.nodes after)
           → follow (known (take nodes words)) xs ≡ shown k (take answer.nodes after)
-      stops zero some e = absurd (some refl)
-      stops (suc k) some e = unfold shown in follow-stops (known (take nodes words)) xs i (suc k) within e
+      stops zero some h = absurd (some refl)
+      stops (suc k) some h = unfold shown in (ap (follow (known (take nodes words))) e ∙ follow-stops (known (take nodes words)) ys a rest (suc k) h)
 
--- all of them
-pub follows-end : (r : Replay) (xs : List ℕ) (nodes : ℕ) (words after : List ℕ) (answer : Recovered) (i : ℕ) → length xs ≤ i
-    → Follows (follow r (take i xs)) nodes words after answer → Follows (follow r xs) nodes words after answer
-follows-end r xs nodes words after answer i h f = rw (take_all i xs h) at f
+-- ---- the addresses that an iterator gives
+
+pub runs : {S A B : Type 0} {steps : S → Option A → S → Type 0} {v : A → B} {s : S} {ys : List B} → YieldsList steps v s ys → AlwaysYields steps v s ys
+runs road = road.runs
+
+module _ {S : Type 0} (steps : S → Option ℕ → S → Type 0) (s : S) (xs : List ℕ) (road : AlwaysYields steps (λ x. x) s xs) (ys : List ℕ) (t u : S)
+    (y : Yields steps s ys t) where
+  list : YieldsList steps (λ x. x) s xs
+  list = record { runs = road }
+
+  so_far : ys ≡ take (length ys) xs
+  so_far = sym (map-id ys) ∙ YieldsList-so_far list ys t y
+
+  -- those to come begin with this one
+  pub ahead : (a : ℕ) → steps t (Some a) u → xs ≡ ys ++ (a ∷ drop (suc (length ys)) xs)
+  ahead a e =
+      let (within, here) = YieldsList-turn list ys t y (Some a) u a refl e in
+      sym (take-append-drop (length ys) xs)
+      ∙ ap₂ (λ (l r : List ℕ). l ++ r) (sym so_far)
+      (drop-cons xs (length ys) a within ∙ ap (λ (x : ℕ). x ∷ drop (suc (length ys)) xs) (sym here))
+
+  -- none is to come
+  pub no_more : steps t None u → ys ≡ xs
+  no_more e = sym (map-id ys) ∙ (YieldsList-end list ys t y None u refl e).0
 
 pub follows_same : {r s : Replay} (nodes : ℕ) (words after : List ℕ) (answer : Recovered) → r ≡ s → Follows s nodes words after answer
     → Follows r nodes words after answer

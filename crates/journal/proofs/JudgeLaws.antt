@@ -1,7 +1,7 @@
 -- What the writer answers, exit by exit. Assumes nothing.
 use Prim.Native.Nat.{ℕ, zero, suc, ◌≤◌, ◌<◌}
 use mathlib.Core.Path.{◌≡◌, refl, sym, ap, ◌∙◌}
-use mathlib.Core.Bool.{true, false}
+use mathlib.Core.Bool.{true}
 use mathlib.Core.List.{List}
 use borrow.Author.Tests.{le-leb, lt-leb}
 use lib.ListN.{length, take}
@@ -26,15 +26,7 @@ unfolding shown
 shown-known n xs z = rw z refl
 
 module _ (journal addresses : List ℕ) where
-  pub judging-length : is_length (length journal) ≡ false → judging journal addresses ≡ refuse_placing 12
-  unfolding judging
-  judging-length e = rw e refl
-
   module _ (right : is_length (length journal) ≡ true) where
-    pub judging-count : is_count (length addresses) ≡ false → judging journal addresses ≡ refuse_placing 12
-    unfolding judging
-    judging-count e = rw (right, e) refl
-
     module _ (count : is_count (length addresses) ≡ true) where
       judging_by : (r : Replay) → follow (replayed journal) addresses ≡ r
           → judging journal addresses ≡ judged r (slot_count journal) (written_slots (slots_of journal))

@@ -1,14 +1,16 @@
 -- Recovery, exit by exit. Assumes nothing.
 use Rattle.std.specs.Prelude.{if◌then◌else◌}
-use Prim.Native.Nat.{ℕ, zero, suc, ◌*◌, ◌-◌, ◌/◌, ◌%◌, ◌≤◌, ◌<◌}
+use Prim.Native.Nat.{ℕ, zero, suc, min, ◌*◌, ◌-◌, ◌/◌, ◌%◌, ◌≤◌, ◌<◌}
 use mathlib.Core.Path.{◌≡◌, refl, sym, ap, ap₂, ◌∙◌}
 use mathlib.Core.Bool.{Bool, true, false, not, ◌&&◌}
-use mathlib.Core.List.{List, ◌++◌}
+use mathlib.Core.List.{List, [], ◌++◌, append-nil}
 use native.Mathlib.Omega.{arith}
 use borrow.Author.Tests.{eq-eqb, ne_eqb, eqb-true, eqb-false, le-ltb, ltb-false, leb-true}
 use lib.Dec.{eqb, leb, ltb}
-use lib.ListN.{length, take, replicate}
+use borrow.Rule.Slice.PartMut.{put_mid}
+use lib.ListN.{length, take, drop, replicate, length-take, length-drop, drop_of_length-le}
 use lib.Seq.{length-take-le}
+use Rattle.std.proofs.lemmas.List.{take_min}
 use Rattle.block.specs.Block.{slot_bytes}
 use Rattle.journal.specs.Limits.{most_slots, most_nodes}
 use Rattle.journal.specs.Replay.{Replay}
@@ -42,6 +44,17 @@ pub finished-known : (end : Progress) (words : List ℕ) → end.refusal ≡ 0 �
 }
 unfolding finished
 finished-known end words z = rw (eq-eqb end.refusal 0 z) refl
+
+-- the words from a place on are filled with zeros, where there are any
+pub cleared : (words part : List ℕ) (nodes from : ℕ) → from ≡ min nodes (length words)
+    → part ≡ replicate (length (take (length words - from) (drop from words))) 0
+    → put_mid from (length words - from) words part ≡ take nodes words ++ replicate (length words - nodes) 0
+cleared words part nodes from e f =
+    let none : drop (length words - from) (drop from words) ≡ [] = drop_of_length-le (drop from words) (omega (arith, length-drop from words)) in
+    let many : length (take (length words - from) (drop from words)) ≡ length words - nodes =
+    omega (arith, e, length-take (length words - from) (drop from words), length-drop from words) in
+    ap₂ (λ (k : ℕ) (l : List ℕ). take k words ++ (part ++ l)) e none
+    ∙ ap₂ (λ (l r : List ℕ). l ++ r) (take_min nodes words) (append-nil part ∙ f ∙ ap (λ (k : ℕ). replicate k 0) many)
 
 -- so many bytes and words are right
 pub unfit-none : (bytes words : ℕ) → unfit bytes words ≡ 0 → (is_length bytes ≡ true) × (most_nodes ≤ words)

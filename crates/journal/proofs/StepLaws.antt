@@ -4,7 +4,7 @@ use mathlib.Core.Path.{◌≡◌, refl, sym, ap, ap₂, ◌∙◌}
 use mathlib.Core.Bool.{true, false}
 use mathlib.Core.List.{List, ◌++◌}
 use native.Mathlib.Omega.{arith}
-use borrow.Author.Tests.{le-leb, lt-leb, lt-ltb, le-ltb}
+use borrow.Author.Tests.{lt-leb, le-ltb}
 use lib.Dec.{leb, ltb}
 use lib.ListN.{length, take, drop, replicate, take-append-drop}
 use lib.Seq.{length-take-le}
@@ -13,28 +13,13 @@ use Rattle.journal.specs.Replay.{Replay, known}
 use Rattle.journal.specs.Slots.{slot_count, is_erased, not_erased, slot_taken}
 use Rattle.journal.specs.Recovery.{Recovered}
 use Rattle.journal.specs.Follows.{shown, Follows}
-use Rattle.journal.specs.Reader.{Progress, State, stops, stopped, slot_at, written_after, moved, took, step}
+use Rattle.journal.specs.Reader.{Progress, State, stops, slot_at, written_after, moved, took, step}
 
 -- what the code answers and leaves is what the state says
 pub step_says : {p : Progress} {ws : List ℕ} (s : State) → s ≡ record { progress = p; words = ws } → (p ≡ s.progress) × (ws ≡ s.words)
 step_says s e = (ap (λ (t : State). t.progress) (sym e), ap (λ (t : State). t.words) (sym e))
 
 module _ (journal : List ℕ) (slot written nodes : ℕ) (words : List ℕ) where
-  -- ---- nothing is taken
-
-  pub step_past : slot_count journal ≤ slot → step journal slot written nodes words ≡ stopped slot written nodes words
-  unfolding step stops
-  step_past h = rw (le-leb (slot_count journal) slot h) refl
-
-  pub step_room : slot < slot_count journal → length words < most_nodes → step journal slot written nodes words ≡ stopped slot written nodes words
-  unfolding step stops
-  step_room h r = rw (lt-leb (slot_count journal) slot h, lt-ltb (length words) most_nodes r) refl
-
-  pub step-nodes : slot < slot_count journal → most_nodes ≤ length words → most_nodes < nodes
-      → step journal slot written nodes words ≡ stopped slot written nodes words
-  unfolding step stops
-  step-nodes h r n = rw (lt-leb (slot_count journal) slot h, le-ltb (length words) most_nodes r, lt-ltb most_nodes nodes n) refl
-
   module _ (within : slot < slot_count journal) (room : most_nodes ≤ length words) (few : nodes ≤ most_nodes) where
     -- ---- a slot is taken
 

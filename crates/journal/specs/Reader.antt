@@ -8,7 +8,28 @@ use Rattle.journal.specs.Limits.{most_nodes}
 use Rattle.journal.specs.Replay.{Replay, known, fault}
 use Rattle.journal.specs.Slots.{slot_count, is_erased, slot_taken}
 use Rattle.journal.specs.Recovery.{RecoverEffect, refuse_recovery}
-pub use Rattle.journal.specs.declared.Progress.{Progress}
+use Rattle.std.specs.Prelude.{Option, Some, None}
+use Rattle.refusal.specs.declared.Refusal.{Refusal}
+use Rattle.refusal.specs.Refusal.{number_of}
+use Rattle.journal.specs.declared.Progress.{Progress as ProgressOfCode}
+
+-- How far a journal is taken: the next slot; how many slots are not erased; the nodes known, at the front of the words; the first fault, 0 where
+-- there is none; and whether nothing is left to take.
+pub record Progress : Type 0 where
+  pub slot : ℕ
+  pub written : ℕ
+  pub nodes : ℕ
+  pub refusal : ℕ
+  pub done : Bool
+
+-- the papers' number of a fault, 0 where there is none
+abbrev pub fault_answer : Option Refusal → ℕ
+fault_answer None = 0
+fault_answer (Some r) = number_of r
+
+-- how far the code says that a journal is taken
+abbrev pub progress_answer : ProgressOfCode → Progress
+progress_answer p = record { slot = p.slot; written = p.written; nodes = p.nodes; refusal = fault_answer p.refusal; done = p.done }
 
 -- the numbers, and the words beside them
 pub record State : Type 0 where

@@ -5,7 +5,18 @@ use Rattle.address.specs.declared.Kind.{Kind}
 use Rattle.address.specs.declared.Kind.TheVariants.{Router, Host}
 use Rattle.node.specs.Node.{fresh, with_counts}
 use Rattle.journal.specs.Replay.{among}
-pub use Rattle.journal.specs.declared.Record.{Record}
+use Rattle.std.specs.Prelude.{Option, Some, None}
+use Rattle.node.specs.declared.Node.{Node}
+
+-- A node's record, and whether it was found.
+pub record Record : Type 0 where
+  pub node : Node
+  pub found : Bool
+
+-- no record is that of address zero, which is bad
+abbrev pub record_answer : Option Node → Record
+record_answer None = record { node = fresh 0; found = false }
+record_answer (Some n) = record { node = n; found = true }
 
 -- "A host ends in 1 and is longer than one bit."; every other address that has a parent is a router
 unfoldable pub is_kind : Kind → ℕ → Bool

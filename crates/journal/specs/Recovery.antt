@@ -5,7 +5,24 @@ use Rattle.block.specs.Block.{slot_bytes}
 use Rattle.journal.specs.Limits.{most_slots, most_nodes}
 use Rattle.journal.specs.Replay.{Replay, known, fault}
 use Rattle.journal.specs.Slots.{replayed}
-pub use Rattle.journal.specs.declared.Recovered.{Recovered}
+use Rattle.std.specs.Prelude.{Result, Ok, Err}
+use Rattle.refusal.specs.declared.Refusal.{Refusal}
+use Rattle.refusal.specs.Refusal.{number_of}
+
+-- What recovery answers: a refusal's number, 0 where the nodes are listed, and their number, 0 with a refusal.
+pub record Recovered : Type 0 where
+  pub refusal : ℕ
+  pub nodes : ℕ
+
+-- the papers' numbers for each case of the answer
+abbrev pub recovered_answer : Result ℕ Refusal → Recovered
+recovered_answer (Ok n) = record { refusal = 0; nodes = n }
+recovered_answer (Err r) = record { refusal = number_of r; nodes = 0 }
+
+-- the same, where so many nodes are known in the end
+abbrev pub known_answer : Result (Unit {0}) Refusal → ℕ → Recovered
+known_answer (Ok done) n = record { refusal = 0; nodes = n }
+known_answer (Err r) n = record { refusal = number_of r; nodes = 0 }
 
 -- "1 to 128 slots of 512 bytes"
 unfoldable pub is_length : ℕ → Bool

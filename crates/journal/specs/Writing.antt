@@ -5,7 +5,19 @@ use Rattle.journal.specs.Replay.{Replay, known, fault, follow}
 use Rattle.block.specs.Block.{slot_bytes, is_count, block}
 use Rattle.journal.specs.Slots.{slot_count, slots_of, replayed, written_slots}
 use Rattle.journal.specs.Recovery.{is_length}
-pub use Rattle.journal.specs.declared.Placed.{Placed}
+use Rattle.std.specs.Prelude.{Result, Ok, Err}
+use Rattle.refusal.specs.declared.Refusal.{Refusal}
+use Rattle.refusal.specs.Refusal.{number_of}
+
+-- What the writer answers: a refusal's number, 0 where the block is written, and its slot, counted from 0; 0 with a refusal.
+pub record Placed : Type 0 where
+  pub refusal : ℕ
+  pub slot : ℕ
+
+-- the papers' numbers for each case of the answer
+abbrev pub placed_answer : Result ℕ Refusal → Placed
+placed_answer (Ok s) = record { refusal = 0; slot = s }
+placed_answer (Err r) = record { refusal = number_of r; slot = 0 }
 
 unfoldable pub refuse_placing : ℕ → Placed
 refuse_placing number = record { refusal = number; slot = 0 }

@@ -1,23 +1,18 @@
--- `journal::among` meets its contract: before each turn, what stands from the place on decides.
-use mathlib.Core.Path.{refl, sym, ◌∙◌}
-use native.Mathlib.Omega.{arith}
-use Rattle.journal.proofs.AmongLaws.{among_four_here, among_four_past}
+-- `journal::among` meets its contract: what is found is what stands among those looked at.
+use Rattle.std.proofs.Common.{◌≡◌, ◌||◌, false, eqb, refl, sym, ap, ◌∙◌, rules, tests}
+use Rattle.std.proofs.lemmas.Fn.{fold_over, fronts}
+use Rattle.std.proofs.lemmas.Iterator.{YieldsList-from_slice}
+use Rattle.journal.specs.Replay.{among}
+use Rattle.journal.proofs.AmongLaws.{among_snoc}
 use Rattle.journal.proofs.among.Goals as goal
 
-pub loop-i-init : goal.loop-i-init
-loop-i-init c = (omega arith, refl)
-
-pub returns-then-among_four : goal.returns-then-among_four
-returns-then-among_four c =
-    let at = c.args in
-    let loop = c.loop-i in
-    sym (sym loop.invariant.1 ∙ among_four_here at.number at.list.now loop.i (sym c.among_four.ensures ∙ c.if-among_four.true))
-
-pub loop-i-preserved : goal.loop-i-preserved
-loop-i-preserved c =
-    let at = c.args in
-    let loop = c.loop-i in
-    (omega arith, sym (among_four_past at.number at.list.now loop.i (sym c.among_four.ensures ∙ c.if-among_four.false)) ∙ loop.invariant.1)
-
 pub returns : goal.returns
-returns c = c.among_rest.ensures ∙ c.loop-i.invariant.1
+unfolding among
+returns c =
+    let a = c.args.number in
+    let list = c.args.list.now in
+    fold_over fronts (λ y. y.now) _ (λ ys found. found ≡ among a ys) _
+    (λ ys found x b f j k.
+    let one : b ≡ (found || eqb x.now a) = search (rules, tests) in
+    (one ∙ ap (λ found. found || eqb x.now a) j ∙ sym (among_snoc a ys x.now), search (rules, tests)))
+    c.iter.result list false c.fold.result (YieldsList-from_slice list cc).runs refl c.fold.ensures.ran

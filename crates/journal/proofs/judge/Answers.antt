@@ -1,36 +1,23 @@
 -- `journal::judge` meets its contract: each exit is one law of `judging`, at the end of the run over the slots.
-use mathlib.Core.Path.{sym, ◌∙◌}
+use Prim.Native.Nat.{ℕ}
+use mathlib.Core.Path.{◌≡◌, refl, sym, ap, ◌∙◌}
+use Rattle.std.proofs.Common.{rules, tests, Ok, Err}
+use Rattle.std.proofs.lemmas.Iterator.{YieldsList-from_slice}
+use Rattle.std.proofs.lemmas.Iterator.Consumers.{YieldsList-at, YieldsList-from_copied}
 use native.Mathlib.Omega.{arith}
-use lib.ListN.{length}
-use Rattle.block.proofs.Cases.{is_count-zero, is_count-many, is_count_true}
-use Rattle.journal.specs.Writing.{refuse_placing}
+use lib.ListN.{length, replicate, length-replicate}
+use Rattle.journal.specs.Limits.{most_nodes}
+use Rattle.block.proofs.Cases.{is_count_true}
+use Rattle.refusal.specs.Refusal.{number_of}
+use Rattle.refusal.proofs.Numbers.{numbered}
+use Rattle.journal.specs.Recovery.{known_answer}
+use Rattle.journal.specs.Reader.{fault_answer, progress_answer}
+use Rattle.journal.specs.Writing.{placed_answer, refuse_placing}
+use Rattle.journal.proofs.FollowLaws.{runs}
 use Rattle.journal.proofs.EndLaws.{ends_so}
 use Rattle.journal.proofs.RecoverLaws.{is_length-some}
-use Rattle.journal.proofs.JudgeLaws.{judging-length, judging-count, judging-fault, judging-addresses, judging-full, judging-placed}
+use Rattle.journal.proofs.JudgeLaws.{judging-fault, judging-addresses, judging-full, judging-placed}
 use Rattle.journal.proofs.judge.Goals as goal
-
-pub returns-then-not-is_length : goal.returns-then-not-is_length
-unfolding refuse_placing
-returns-then-not-is_length c =
-    let at = c.args in
-    let wrong = sym c.is_length.ensures ∙ c.if-not-is_length.true in
-    c.refuse_block.ensures ∙ sym (judging-length at.journal.now at.addresses.now wrong)
-
-pub returns-then-addresses-lt1 : goal.returns-then-addresses-lt1
-unfolding refuse_placing
-returns-then-addresses-lt1 c =
-    let at = c.args in
-    let right = sym c.is_length.ensures ∙ c.if-not-is_length.false in
-    let wrong = is_count-zero (length at.addresses.now) c.if-addresses-lt1.true in
-    c.refuse_block-then-addresses-lt1.ensures ∙ sym (judging-count at.journal.now at.addresses.now right wrong)
-
-pub returns-then-addresses-gt-MOST_ADDRESSES : goal.returns-then-addresses-gt-MOST_ADDRESSES
-unfolding refuse_placing
-returns-then-addresses-gt-MOST_ADDRESSES c =
-    let at = c.args in
-    let right = sym c.is_length.ensures ∙ c.if-not-is_length.false in
-    let wrong = is_count-many (length at.addresses.now) (omega (arith, c.if-addresses-lt1.false)) c.if-addresses-gt-MOST_ADDRESSES.true in
-    c.refuse_block-then-addresses-gt-MOST_ADDRESSES.ensures ∙ sym (judging-count at.journal.now at.addresses.now right wrong)
 
 pub replay-end-requires : goal.replay-end-requires
 replay-end-requires c =
@@ -38,62 +25,68 @@ replay-end-requires c =
     let right = sym c.is_length.ensures ∙ c.if-not-is_length.false in
     (is_length-some (length at.journal.now) right, omega arith)
 
-pub returns-then-end-ne0 : goal.returns-then-end-ne0
+pub returns-in-Some : goal.returns-in-Some
 unfolding refuse_placing
-returns-then-end-ne0 c =
+returns-in-Some c =
     let at = c.args in
     let right = sym c.is_length.ensures ∙ c.if-not-is_length.false in
+    let some = is_length-some (length at.journal.now) right in
+    let replayed = c.replay-end in
+    let end = ends_so at.journal.now (replicate most_nodes 0) (omega arith) some (progress_answer replayed.result) replayed.new.words replayed.ensures in
     let count = is_count_true (length at.addresses.now) (omega (arith, c.if-addresses-lt1.false), omega (arith, c.if-addresses-gt-MOST_ADDRESSES.false)) in
-    let some = is_length-some (length at.journal.now) right in
-    let replayed = c.replay-end in
-    let end = ends_so at.journal.now at.words.now (omega arith) some replayed.result replayed.new.words replayed.ensures in
-    c.refuse_block-then-end-ne0.ensures ∙ sym (judging-fault at.journal.now at.addresses.now right count at.words.now _ end c.if-end-ne0.true)
+    let number : fault_answer replayed.result.refusal ≡ number_of c.in-Some.refusal = ap fault_answer c.in-Some.is in
+    ap (λ (n : ℕ). record { refusal = n; slot = 0 }) (sym number)
+    ∙ sym (judging-fault at.journal.now at.addresses.now right count (replicate most_nodes 0) _ end (λ z. numbered.some c.in-Some.refusal (sym number ∙ z)))
 
-pub follow-followed-requires : goal.follow-followed-requires
-follow-followed-requires c =
+pub invariant_of-known : goal.invariant_of-known
+invariant_of-known c =
     let at = c.args in
     let right = sym c.is_length.ensures ∙ c.if-not-is_length.false in
     let some = is_length-some (length at.journal.now) right in
     let replayed = c.replay-end in
-    let end = ends_so at.journal.now at.words.now (omega arith) some replayed.result replayed.new.words replayed.ensures in
-    (end.few, omega (arith, end.same))
+    let end = ends_so at.journal.now (replicate most_nodes 0) (omega arith) some (progress_answer replayed.result) replayed.new.words replayed.ensures in
+    record { few = end.few; room = omega (arith, end.same, length-replicate {A = ℕ} most_nodes 0) }
 
-pub returns-then-followed-ne0 : goal.returns-then-followed-ne0
+pub returns-in_err-follow : goal.returns-in_err-follow
 unfolding refuse_placing
-returns-then-followed-ne0 c =
+returns-in_err-follow c =
     let at = c.args in
     let right = sym c.is_length.ensures ∙ c.if-not-is_length.false in
-    let count = is_count_true (length at.addresses.now) (omega (arith, c.if-addresses-lt1.false), omega (arith, c.if-addresses-gt-MOST_ADDRESSES.false)) in
     let some = is_length-some (length at.journal.now) right in
     let replayed = c.replay-end in
-    let end = ends_so at.journal.now at.words.now c.requires some replayed.result replayed.new.words replayed.ensures in
-    let followed = c.follow-followed in
-    c.refuse_block-then-followed-ne0.ensures
-    ∙ sym (judging-addresses at.journal.now at.addresses.now right count at.words.now _ end c.if-end-ne0.false _ _ followed.result
-    followed.ensures c.if-followed-ne0.true)
+    let end = ends_so at.journal.now (replicate most_nodes 0) (omega arith) some (progress_answer replayed.result) replayed.new.words replayed.ensures in
+    let count = is_count_true (length at.addresses.now) (omega (arith, c.if-addresses-lt1.false), omega (arith, c.if-addresses-gt-MOST_ADDRESSES.false)) in
+    let r = c.in_err-follow.field-0.0 in
+    let same : c.from_residual.result ≡ Err r = search (rules, tests) in
+    let whole : fault_answer replayed.result.refusal ≡ 0 = ap fault_answer c.in_default.is in
+    let road = YieldsList-from_copied (YieldsList-at c.copied.ensures.source (YieldsList-from_slice at.addresses.now cc)) in
+    ap placed_answer same
+    ∙ sym (judging-addresses at.journal.now at.addresses.now right count (replicate most_nodes 0) _ end whole _ _ (known_answer (Err r) c.follow.new.self.nodes)
+    (c.in_err-follow.ensures.follows at.addresses.now (runs road)) (numbered.some r))
 
 pub returns-then-journal-end : goal.returns-then-journal-end
 unfolding refuse_placing
 returns-then-journal-end c =
     let at = c.args in
     let right = sym c.is_length.ensures ∙ c.if-not-is_length.false in
-    let count = is_count_true (length at.addresses.now) (omega (arith, c.if-addresses-lt1.false), omega (arith, c.if-addresses-gt-MOST_ADDRESSES.false)) in
     let some = is_length-some (length at.journal.now) right in
     let replayed = c.replay-end in
-    let end = ends_so at.journal.now at.words.now c.requires some replayed.result replayed.new.words replayed.ensures in
-    let followed = c.follow-followed in
-    c.refuse_block-then-journal-end.ensures
-    ∙ sym (judging-full at.journal.now at.addresses.now right count at.words.now _ end c.if-end-ne0.false _ _ followed.result
-    followed.ensures c.if-followed-ne0.false (omega (arith, c.if-journal-end.true)))
+    let end = ends_so at.journal.now (replicate most_nodes 0) (omega arith) some (progress_answer replayed.result) replayed.new.words replayed.ensures in
+    let count = is_count_true (length at.addresses.now) (omega (arith, c.if-addresses-lt1.false), omega (arith, c.if-addresses-gt-MOST_ADDRESSES.false)) in
+    let whole : fault_answer replayed.result.refusal ≡ 0 = ap fault_answer c.in_default.is in
+    let road = YieldsList-from_copied (YieldsList-at c.copied.ensures.source (YieldsList-from_slice at.addresses.now cc)) in
+    sym (judging-full at.journal.now at.addresses.now right count (replicate most_nodes 0) _ end whole _ _ (known_answer (Ok c.in_ok-follow.field-0) c.follow.new.self.nodes)
+    (c.in_ok-follow.ensures.follows at.addresses.now (runs road)) refl (omega (arith, c.if-journal-end.true)))
 
 pub returns : goal.returns
 returns c =
     let at = c.args in
     let right = sym c.is_length.ensures ∙ c.if-not-is_length.false in
-    let count = is_count_true (length at.addresses.now) (omega (arith, c.if-addresses-lt1.false), omega (arith, c.if-addresses-gt-MOST_ADDRESSES.false)) in
     let some = is_length-some (length at.journal.now) right in
     let replayed = c.replay-end in
-    let end = ends_so at.journal.now at.words.now c.requires some replayed.result replayed.new.words replayed.ensures in
-    let followed = c.follow-followed in
-    sym (judging-placed at.journal.now at.addresses.now right count at.words.now _ end c.if-end-ne0.false _ _ followed.result
-    followed.ensures c.if-followed-ne0.false (omega (arith, c.if-journal-end.false)))
+    let end = ends_so at.journal.now (replicate most_nodes 0) (omega arith) some (progress_answer replayed.result) replayed.new.words replayed.ensures in
+    let count = is_count_true (length at.addresses.now) (omega (arith, c.if-addresses-lt1.false), omega (arith, c.if-addresses-gt-MOST_ADDRESSES.false)) in
+    let whole : fault_answer replayed.result.refusal ≡ 0 = ap fault_answer c.in_default.is in
+    let road = YieldsList-from_copied (YieldsList-at c.copied.ensures.source (YieldsList-from_slice at.addresses.now cc)) in
+    sym (judging-placed at.journal.now at.addresses.now right count (replicate most_nodes 0) _ end whole _ _ (known_answer (Ok c.in_ok-follow.field-0) c.follow.new.self.nodes)
+    (c.in_ok-follow.ensures.follows at.addresses.now (runs road)) refl (omega (arith, c.if-journal-end.false)))
