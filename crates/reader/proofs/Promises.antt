@@ -12,9 +12,11 @@ use contract.Lifetimes.{Lfts}
 use contract.Monad.{Fun, fact}
 use Rattle.std.specs.Borrow.{Bor, MutBor}
 use denote.Triple.Clauses.{AtExit}
-use Rattle.journal.specs.declared.Recovered.{Recovered}
-use Rattle.journal.specs.Recovery.{recovering}
-use Rattle.reader.specs.Reader.{Reader, Taken, reader_at}
+use Rattle.std.specs.Prelude.{Result}
+use Rattle.refusal.specs.declared.Refusal.{Refusal}
+use Rattle.journal.specs.Recovery.{recovered_answer, recovering}
+use Rattle.reader.specs.declared.Taken.{Taken as TakenOfCode}
+use Rattle.reader.specs.Reader.{Reader, taken_answer, reader_at}
 use Rattle.reader.specs.SameAnswers.{reading}
 use Rattle.reader.specs.contracts.Reader.start as start
 use Rattle.reader.specs.contracts.Reader.next as next
@@ -37,9 +39,9 @@ module _ {M : Type 1} {𝓤 : Ura M} (𝓛 : Logic 𝓤) (mem : Memory → SProp
   start-asks-nothing κs journal = refl
 
   module _ (κs : Lfts 2) (reader : Reader) (words : MutSlice) (written nodes : ℕ) where
-    pub next_promise : (r : Taken) (end : AtExit next.ended κs)
+    pub next_promise : (r : TakenOfCode) (end : AtExit next.ended κs)
         → (next.clauses 𝓛 mem run κs (reader, (words, (written, (nodes, tt))))).ensures tt r end
-        ≡ fact 𝓤 ((r ≡ (reading reader written nodes words.now).taken) × (end.1.0.now ≡ (reading reader written nodes words.now).words))
+        ≡ fact 𝓤 ((taken_answer r ≡ (reading reader written nodes words.now).taken) × (end.1.0.now ≡ (reading reader written nodes words.now).words))
     next_promise r end = refl
 
     pub next-asks-nothing : (next.clauses 𝓛 mem run κs (reader, (words, (written, (nodes, tt))))).requires tt ≡ emp 𝓤
@@ -53,8 +55,8 @@ module _ {M : Type 1} {𝓤 : Ura M} (𝓛 : Logic 𝓤) (mem : Memory → SProp
   place-asks-nothing κs reader = refl
 
 module _ (κs : Lfts 2) (journal : Slice) (words : MutSlice) where
-  pub recover_promise : (last : MutSlice) (r : Recovered) → recover-reads.Learnt κs (journal, (words, tt)) r (journal, (last, tt))
-      → (r ≡ (recovering journal.now words.now).answer) × (last.now ≡ (recovering journal.now words.now).words)
+  pub recover_promise : (last : MutSlice) (r : Result ℕ Refusal) → recover-reads.Learnt κs (journal, (words, tt)) r (journal, (last, tt))
+      → (recovered_answer r ≡ (recovering journal.now words.now).answer) × (last.now ≡ (recovering journal.now words.now).words)
   recover_promise last r h = h
 
   pub recover-asks-nothing : recover-reads.Asked κs (journal, (words, tt))

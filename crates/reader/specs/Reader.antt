@@ -2,10 +2,18 @@
 -- it answers from any other state than those from the first slot on is left open by the request; here it is `step` from every state.
 use Rattle.std.specs.Prelude.{ℕ, List}
 use Rattle.std.specs.Borrow.{Bor}
-use Rattle.journal.specs.declared.Progress.{Progress}
-use Rattle.journal.specs.Reader.{State, step}
+use Rattle.journal.specs.Reader.{Progress, progress_answer, State, step}
 pub use Rattle.reader.specs.declared.Reader.{Reader}
-pub use Rattle.reader.specs.declared.Taken.{Taken}
+use Rattle.reader.specs.declared.Taken.{Taken as TakenOfCode}
+
+-- What the reader answers for a slot: itself, moved on, and how far the journal is taken.
+pub record Taken : Type 0 where
+  pub reader : Reader
+  pub progress : Progress
+
+-- what the code answers
+abbrev pub taken_answer : TakenOfCode → Taken
+taken_answer t = record { reader = t.reader; progress = progress_answer t.progress }
 
 abbrev pub reader_at : Bor (List ℕ) → ℕ → Reader
 reader_at journal slot = record { journal = journal; slot = slot }

@@ -1,27 +1,31 @@
 -- `reader::recover` meets its contract: each exit is one law of `recovering`, the second at the end of the run over the slots. Assumes nothing.
-use Rattle.std.proofs.Common.{ℕ, ◌≤◌, length, subst, sym, ap, ◌∙◌, arith}
+use Rattle.std.proofs.Common.{◌≡◌, ℕ, ◌≤◌, Err, length, subst, sym, ap, ◌∙◌, arith, rules, tests}
 use Rattle.std.proofs.Math.ListN.{length-set}
 use Rattle.journal.specs.Limits.{most_nodes}
-use Rattle.journal.specs.Recovery.{RecoverEffect, refuse_recovery}
-use Rattle.journal.specs.Reader.{begin}
+use Rattle.refusal.specs.Refusal.{number_of}
+use Rattle.refusal.proofs.Numbers.{numbered}
+use Rattle.journal.specs.Recovery.{RecoverEffect, recovered_answer, unfit, refuse_recovery}
+use Rattle.journal.specs.Reader.{progress_answer, begin}
 use Rattle.journal.proofs.RecoverLaws.{is_length-some, unfit-none, recovery_says, recovering-unfit, recovering-run}
 use Rattle.reader.proofs.recover.Goals as goal
 
-pub returns-then-refusal-ne0 : goal.returns-then-refusal-ne0
+pub returns-in_err-unfit : goal.returns-in_err-unfit
 unfolding refuse_recovery
-returns-then-refusal-ne0 c =
+returns-in_err-unfit c =
     let at = c.args in
-    let refusal = c.unfit-refusal.ensures in
-    let says = recovery_says _ (recovering-unfit at.journal.now at.words.now (λ z. c.if-refusal-ne0.true (refusal ∙ z))) in
-    (c.refuse.ensures ∙ ap (λ (n : ℕ). record { refusal = n; nodes = 0 }) refusal ∙ says.0, says.1)
+    let r = c.in_err-unfit.field-0.0 in
+    let same : c.from_residual.result ≡ Err r = search (rules, tests) in
+    let wrong : number_of r ≡ unfit (length at.journal.now) (length at.words.now) = c.in_err-unfit.ensures in
+    let says = recovery_says _ (recovering-unfit at.journal.now at.words.now (λ z. numbered.some r (wrong ∙ z))) in
+    (ap recovered_answer same ∙ ap (λ (n : ℕ). record { refusal = n; nodes = 0 }) wrong ∙ says.0, says.1)
 
 pub bounds-words-0 : goal.bounds-words-0
-bounds-words-0 c = omega (arith, (unfit-none _ _ (sym c.unfit-refusal.ensures ∙ c.if-refusal-ne0.false)).1)
+bounds-words-0 c = omega (arith, (unfit-none _ _ (sym c.in_ok-unfit.ensures)).1)
 
 pub replay-end-requires : goal.replay-end-requires
 replay-end-requires c =
     let at = c.args in
-    let fit = unfit-none _ _ (sym c.unfit-refusal.ensures ∙ c.if-refusal-ne0.false) in
+    let fit = unfit-none _ _ (sym c.in_ok-unfit.ensures) in
     (is_length-some (length at.journal.now) fit.0, subst (λ (n : ℕ). most_nodes ≤ n) (sym (length-set at.words.now _ _)) fit.1)
 
 pub returns : goal.returns
@@ -31,6 +35,5 @@ returns c =
     let replayed = c.replay-end in
     let finished = c.finish.ensures in
     let e =
-    recovering-run at.journal.now at.words.now (sym c.unfit-refusal.ensures ∙ c.if-refusal-ne0.false) replayed.result
-    replayed.new.words replayed.ensures in
+    recovering-run at.journal.now at.words.now (sym c.in_ok-unfit.ensures) (progress_answer replayed.result) replayed.new.words replayed.ensures in
     (finished.0 ∙ ap (λ (x : RecoverEffect). x.answer) (sym e), finished.1 ∙ ap (λ (x : RecoverEffect). x.words) (sym e))

@@ -2,10 +2,9 @@
 -- the way; what the reader answers is that state a slot further. Assumes nothing.
 use Rattle.std.proofs.Common.{◌≡◌, ℕ, List, sym, ap, ap₂, ◌∙◌, arith}
 use borrow.Author.Tests.{not-true, not-false}
-use Rattle.journal.specs.declared.Progress.{Progress}
-use Rattle.journal.specs.Reader.{State, step}
+use Rattle.journal.specs.Reader.{Progress, progress_answer, State, step}
 use Rattle.journal.proofs.RunLaws.{stepped, turning-turn, turning-falls, turning-end}
-use Rattle.reader.specs.Reader.{Reader, Taken, taken_at, words_at}
+use Rattle.reader.specs.Reader.{Reader, Taken, taken_answer, taken_at, words_at}
 use Rattle.reader.proofs.replay.Goals as goal
 
 -- what a reader answers that has come to a state: the journal still, the place of the next slot, and the state a slot further
@@ -26,8 +25,8 @@ pub loop-at-smaller : goal.loop-at-smaller
 loop-at-smaller c =
     let journal = c.args.journal.now in
     let loop = c.loop-at in
-    let state : State = record { progress = loop.at; words = loop.words } in
-    let next = turned journal loop.reader state c.next-taken.result c.next-taken.new.words loop.invariant.0 loop.invariant.1
+    let state : State = record { progress = progress_answer loop.at; words = loop.words } in
+    let next = turned journal loop.reader state (taken_answer c.next-taken.result) c.next-taken.new.words loop.invariant.0 loop.invariant.1
     c.next-taken.ensures.0 c.next-taken.ensures.1 in
     let falls = turning-falls journal c.args.words.now c.requires.1 state loop.invariant.2 (not-true _ c.loop-at-test.true) in
     omega (arith, falls, ap (λ (s : State). s.progress.slot) next.2)
@@ -36,8 +35,8 @@ pub loop-at-preserved : goal.loop-at-preserved
 loop-at-preserved c =
     let journal = c.args.journal.now in
     let loop = c.loop-at in
-    let state : State = record { progress = loop.at; words = loop.words } in
-    let next = turned journal loop.reader state c.next-taken.result c.next-taken.new.words loop.invariant.0 loop.invariant.1
+    let state : State = record { progress = progress_answer loop.at; words = loop.words } in
+    let next = turned journal loop.reader state (taken_answer c.next-taken.result) c.next-taken.new.words loop.invariant.0 loop.invariant.1
     c.next-taken.ensures.0 c.next-taken.ensures.1 in
     let turn = turning-turn journal c.args.words.now c.requires.1 state loop.invariant.2 (not-true _ c.loop-at-test.true) in
     (next.0, next.1, rw next.2 at turn)
@@ -45,6 +44,6 @@ loop-at-preserved c =
 pub returns : goal.returns
 returns c =
     let loop = c.loop-at in
-    let e = turning-end c.args.journal.now c.args.words.now (record { progress = loop.at; words = loop.words }) loop.invariant.2
+    let e = turning-end c.args.journal.now c.args.words.now (record { progress = progress_answer loop.at; words = loop.words }) loop.invariant.2
     (not-false _ c.loop-at-test.false) in
     (ap (λ (s : State). s.progress) e, ap (λ (s : State). s.words) e)
