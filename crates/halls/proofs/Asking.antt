@@ -12,7 +12,7 @@ use Rattle.address.specs.declared.Kind.{Kind}
 use Rattle.address.specs.declared.Kind.TheVariants.{Router}
 use Rattle.node.specs.Node.{address_in, address_at, fresh, raised, child_bits, refuse_child, child_of}
 use Rattle.node.specs.declared.Node.{Node}
-use Rattle.node.specs.declared.Given.{Given}
+use Rattle.node.specs.Node.{Given}
 use Rattle.node.proofs.ChildLaws.{is_good-zero, child_of-bad}
 use Rattle.node.proofs.Children.{address_in-fresh, address_in-raised, MayGive, child_of-given}
 use Rattle.tree.specs.Tree.{request, Tree, bare_root, standing, absent, record_of, replaced, ask, InTree}

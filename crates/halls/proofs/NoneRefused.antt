@@ -8,7 +8,7 @@ use mathlib.Core.List.{List, [], ◌∷◌, map, Memᴰ}
 use native.Mathlib.Decide.{ℕ_discrete}
 use Rattle.address.specs.Bits.{root}
 use Rattle.node.specs.Node.{fresh}
-use Rattle.node.specs.declared.Given.{Given}
+use Rattle.node.specs.Node.{Given}
 use Rattle.tree.specs.Tree.{given_by}
 use Rattle.plan.specs.Grammar.{Items}
 use Rattle.plan.specs.Hall.{child_in, answers, SomeTooLong}

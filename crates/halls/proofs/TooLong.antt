@@ -9,7 +9,7 @@ use native.Mathlib.Decide.{ℕ_discrete}
 use native.Mathlib.Omega.{arith}
 use borrow.Author.Tests.{eq-eqb, ne_eqb}
 use Rattle.node.specs.declared.Node.{Node}
-use Rattle.node.specs.declared.Given.{Given}
+use Rattle.node.specs.Node.{Given}
 use Rattle.tree.specs.Tree.{replied, nobody}
 use Rattle.plan.specs.Grammar.{Items}
 use Rattle.plan.specs.Hall.{child_in, answers, refusal_of}

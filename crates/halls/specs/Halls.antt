@@ -6,7 +6,7 @@ use Rattle.address.specs.Bits.{root}
 use Rattle.address.specs.declared.Kind.{Kind}
 use Rattle.address.specs.declared.Kind.TheVariants.{Router, Host}
 use Rattle.node.specs.Node.{fresh, child_of, set_limit}
-use Rattle.node.specs.declared.Given.{Given}
+use Rattle.node.specs.Node.{Given}
 use Rattle.packet.specs.Packet.{packet_hop}
 use Rattle.tree.specs.Tree.{Request, request, bare_root, Reply, replied, nobody, grow, grown, addresses}
 use Rattle.tree.specs.Demand3.{Demand3}

@@ -16,7 +16,7 @@ use Rattle.address.specs.declared.Kind.{Kind}
 use Rattle.address.proofs.Answers.{parent-small}
 use Rattle.node.specs.Node.{address_in, fresh, count, raised, child_bits, refuse_child, child_of, set_limit}
 use Rattle.node.specs.declared.Node.{Node}
-use Rattle.node.specs.declared.Given.{Given}
+use Rattle.node.specs.Node.{Given}
 use Rattle.node.proofs.Children.{address_in-fresh, count-fresh, address_in-raised, count-raised, count-raised_other}
 use Rattle.node.proofs.Children.{MayGive, child_of-cases, child_of-given, steps-child, address-child, parent-child}
 use Rattle.node.proofs.Settings.{sets_limits}

@@ -22,7 +22,7 @@ use Rattle.address.proofs.Answers.{host_last-routers, is_host-steps}
 use Rattle.address.proofs.Ancestors.{routers-above, length-tail, address-tail, steps-tail, steps_injective}
 use Rattle.node.specs.Node.{address_in, count, child_bits}
 use Rattle.node.specs.declared.Node.{Node}
-use Rattle.node.specs.declared.Given.{Given}
+use Rattle.node.specs.Node.{Given}
 use Rattle.node.proofs.ChildLaws.{length-child_bits}
 use Rattle.node.proofs.Children.{below-no_cap, MayGive, may_give, child_of-given, steps-child, address-child}
 use Rattle.tree.specs.Tree.{Tree, standing, record_of, addresses, InTree}

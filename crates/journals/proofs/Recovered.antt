@@ -10,7 +10,7 @@ use Rattle.address.specs.declared.Kind.{Kind}
 use Rattle.address.specs.declared.Kind.TheVariants.{Router, Host}
 use Rattle.node.specs.Node.{address_in, no_cap, fresh, with_counts, count, limit, with_limits, is_good, child_bits, child_of}
 use Rattle.node.specs.declared.Node.{Node}
-use Rattle.node.specs.declared.Given.{Given}
+use Rattle.node.specs.Node.{Given}
 use Rattle.node.proofs.ChildLaws.{limit_most, count_kept}
 use Rattle.node.proofs.Settings.{good-alike}
 use Rattle.node.proofs.Children.{MayGive, may_give, child_of-given}

@@ -19,7 +19,7 @@ use Rattle.block.proofs.Cases.{is_count_true, true_is_count}
 use Rattle.journal.specs.Replay.{Replay, known, fault, follow, bare}
 use Rattle.journal.specs.Slots.{slot_count, slots_of, replay, replayed, written_slots}
 use Rattle.journal.specs.Recovery.{is_length}
-use Rattle.journal.specs.declared.Placed.{Placed}
+use Rattle.journal.specs.Writing.{Placed}
 use Rattle.journal.specs.Writing.{refuse_placing, placing, judged, judging, with_slot, BlockEffect, stored, writing}
 use Rattle.journal.proofs.ReplayLaws.{follow-fault, follow-append}
 use Rattle.journals.specs.Slots.{IsLength, Right, Fault}

@@ -15,7 +15,7 @@ use Rattle.block.proofs.Cases.{is_count_true}
 use Rattle.journal.specs.Replay.{Replay, known, fault, among, before, is_next, taken, next, follow, bare}
 use Rattle.journal.specs.Slots.{slot_count, slots_of, ends_erased, replay, replayed, written_slots}
 use Rattle.journal.specs.Recovery.{recovering}
-use Rattle.journal.specs.declared.Placed.{Placed}
+use Rattle.journal.specs.Writing.{Placed}
 use Rattle.journal.specs.Writing.{refuse_placing, placing, judged, judging, with_slot, stored, BlockEffect, writing}
 use Rattle.journals.specs.Slots.{IsLength, IsErased, EndsErased, none}
 use Rattle.journals.specs.Refusals.{WriteRefusals}

@@ -11,7 +11,7 @@ use Rattle.tree.specs.Demand3.{Demand3}
 use Rattle.block.specs.Blocks.{AreWords}
 use Rattle.journal.specs.Limits.{most_nodes}
 use Rattle.journal.specs.Replay.{is_next, known, fault, next, follow, bare}
-use Rattle.journal.specs.declared.Record.{Record}
+use Rattle.journal.specs.Record.{Record}
 
 -- ---- the next child
 

@@ -5,7 +5,7 @@ use Rattle.journal.specs.Replay.{follow}
 use Rattle.journal.specs.Slots.{slot_count, slots_of, ends_erased, replayed, written_slots}
 use Rattle.journal.specs.Recovery.{is_length, recovering}
 use Rattle.journal.specs.Writing.{refuse_placing, judged, judging, stored, with_slot, writing}
-use Rattle.journal.specs.declared.Placed.{Placed}
+use Rattle.journal.specs.Writing.{Placed}
 use Rattle.journals.specs.Refusals.{WriteRule, WriteRefusals}
 use Rattle.journals.specs.PowerCuts.{AfterWrite, PowerCut, last_first}
 

@@ -11,7 +11,7 @@ use Rattle.address.specs.Bits.{root}
 use Rattle.node.specs.Node.{address_in, fresh, child_of, set_limit}
 use Rattle.address.specs.declared.Kind.{Kind}
 use Rattle.node.specs.declared.Node.{Node}
-use Rattle.node.specs.declared.Given.{Given}
+use Rattle.node.specs.Node.{Given}
 use Rattle.node.proofs.Children.{address_in-fresh}
 use Rattle.node.proofs.GivenChildren.{gives-children}
 use Rattle.node.proofs.Settings.{sets_limits}

@@ -7,8 +7,8 @@ use Rattle.address.specs.Address.{parent}
 use Rattle.address.specs.declared.Kind.{Kind}
 use Rattle.node.specs.Node.{address_in, fresh}
 use Rattle.node.specs.declared.Node.{Node}
-use Rattle.node.specs.declared.Given.{Given}
-use Rattle.node.specs.declared.Limited.{Limited}
+use Rattle.node.specs.Node.{Given}
+use Rattle.node.specs.Node.{Limited}
 
 -- ---- requests and settings
 
