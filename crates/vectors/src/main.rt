@@ -1,5 +1,5 @@
 // Runs the known values of document 01, the drafts' examples and the values of document 02 through the functions that carry the promises, and
-// compares each answer, as text and octet by octet, with the value typed from the document.
+// compares each answer, as text, with the value typed from the document.
 //
 // The cases are data: the file `stdin` has one to a line, `COMMAND ARGUMENTS = VALUE`, with one space between words, under the sentence that it
 // is from. Empty lines and lines that begin with `#` are printed as they stand, and each case as
@@ -23,8 +23,7 @@
 //
 // Addresses and D are binary digits and may be 0, counts, limits, rooms and numbers are decimal, and octets are an `x` and lower-case
 // hexadecimal digits, none of them for no octets. ROOM is how many words or octets are lent, at most 130 and 8200; they hold AA before, and
-// ` changed` stands behind the answer for each one that was not to be written and is no longer AA. Behind a refusal ` with` and the number
-// beside it would stand, were it not 0.
+// ` changed` stands behind the answer for each one that was not to be written and is no longer AA.
 //
 // A line without ` = ` is `not read` and DIFFERS, and a command that is not named here has the answer `not read`. Arguments are not judged: a
 // number goes as far as its digits do, one that is left out is 0, a count and the limit behind it are taken modulo 256, at most 512 octets are
@@ -32,143 +31,62 @@
 #![tactic(auto)]
 
 mod answer;
+mod arguments;
 mod commands;
-mod read;
 
-use commands::BACK;
 use std::io;
 use std::io::Read;
-
-// A count of cases is the number of those run, and this much more for each whose answer is not the document's value.
-const DIFFERS: u64 = 0x1_0000_0000;
 
 // The most octets of an input, and one more.
 const TOO_LONG: usize = 32768;
 
-fn say(rt: &impl Print, text: &[u8]) -> io::Result<()> {
-    rt.write_all(text)
-}
-
-fn verdict(rt: &impl Print, same: bool) -> io::Result<u64> {
-    if same {
-        say(rt, b" | ok\n")?;
-        return Ok(1);
+// The two sides of a case `COMMAND ARGUMENTS = VALUE`.
+fn sides(line: &[u8]) -> Option<(&[u8], &[u8])> {
+    match line.iter().position(|&octet| octet == b'=') {
+        Some(sign) if 0 < sign && sign + 1 < line.len() => {
+            Some((&line[..sign - 1], &line[sign + 2..]))
+        }
+        _ => None,
     }
-    say(rt, b" | DIFFERS\n")?;
-    Ok(DIFFERS + 1)
 }
 
-// The command with two runs of octets, the second behind the place named.
-fn back(
-    rt: &(impl Print + AllocGlobal),
-    asked: &[u8],
-    second: usize,
-    prefix: &[u8],
-    value: &[u8],
-) -> io::Result<usize> {
-    let mut octets = [0u8; 512];
-    let count = read::octets(asked, second, &mut octets);
-    commands::made(rt, ipv6::read(prefix, &octets[0..count]), value)
-}
-
-// Runs the command with its arguments, octets behind an `x` among them.
-fn run(
-    rt: &(impl Print + AllocGlobal),
-    asked: &[u8],
-    end: usize,
-    name: u64,
-    value: &[u8],
-) -> io::Result<usize> {
-    let first = read::place(asked, b'x');
-    let mut octets = [0u8; 512];
-    let count = read::octets(asked, first, &mut octets);
-    let x = &octets[0..count];
-    if name == BACK {
-        return back(rt, asked, read::behind(first, count), x, value);
+// Prints a line with its answer, and says whether that is the document's value; of a line that is no case, nothing.
+fn judged(rt: &(impl Print + AllocGlobal), line: &[u8]) -> io::Result<Option<bool>> {
+    if line.is_empty() || line.starts_with(b"#") {
+        rt.write_all(line)?;
+        println!(rt; "")?;
+        return Ok(None);
     }
-    commands::run(
-        rt,
-        name,
-        read::arguments(
-            asked,
-            end,
-            commands::first(name),
-            commands::second(name),
-            commands::last(name),
-        ),
-        x,
-        value,
-    )
-}
-
-fn answered(rt: &(impl Print + AllocGlobal), asked: &[u8], value: &[u8]) -> io::Result<bool> {
-    let end = read::place(asked, b' ');
-    let reached = run(rt, asked, end, octets::get(&asked[0..end]), value)?;
-    Ok(reached == value.len())
-}
-
-fn compared(rt: &(impl Print + AllocGlobal), asked: &[u8], value: &[u8]) -> io::Result<u64> {
-    say(rt, asked)?;
-    say(rt, b" | document ")?;
-    say(rt, value)?;
-    say(rt, b" | answer ")?;
-    verdict(rt, answered(rt, asked, value)?)
-}
-
-fn unread(rt: &impl Print, line: &[u8]) -> io::Result<u64> {
-    say(rt, line)?;
-    say(rt, b" | not read")?;
-    verdict(rt, false)
-}
-
-// A line `COMMAND ARGUMENTS = VALUE`.
-fn case(rt: &(impl Print + AllocGlobal), line: &[u8]) -> io::Result<u64> {
-    let sign = read::place(line, b'=');
-    if sign < 1 {
-        return unread(rt, line);
-    }
-    if line.len() - sign < 2 {
-        return unread(rt, line);
-    }
-    compared(rt, &line[0..sign - 1], &line[sign + 2..])
-}
-
-fn remark(rt: &impl Print, line: &[u8]) -> io::Result<u64> {
-    say(rt, line)?;
-    say(rt, b"\n")?;
-    Ok(0)
-}
-
-fn judged(rt: &(impl Print + AllocGlobal), line: &[u8]) -> io::Result<u64> {
-    if line.len() == 0 {
-        return remark(rt, line);
-    }
-    if line[0] == b'#' {
-        return remark(rt, line);
-    }
-    case(rt, line)
-}
-
-fn all(rt: &(impl Print + AllocGlobal), text: &[u8]) -> io::Result<u64> {
-    let mut count: u64 = 0;
-    let mut at = 0;
-    while at < text.len() {
-        let end = at + read::place(&text[at..], b'\n');
-        count = count.wrapping_add(judged(rt, &text[at..end])?);
-        at = end + 1;
-    }
-    Ok(count)
-}
-
-fn conclude(rt: &impl Print, count: u64) -> io::Result<()> {
-    println!(rt; "{} cases, {} differ", count % DIFFERS, count / DIFFERS)
+    let Some((asked, value)) = sides(line) else {
+        rt.write_all(line)?;
+        println!(rt; " | not read | DIFFERS")?;
+        return Ok(Some(false));
+    };
+    let answer = commands::answer(rt.alloc(), asked)?;
+    let same = answer.as_bytes() == value;
+    rt.write_all(asked)?;
+    rt.write_all(b" | document ")?;
+    rt.write_all(value)?;
+    println!(rt;
+        " | answer {answer} | {}",
+        if same { "ok" } else { "DIFFERS" }
+    )?;
+    Ok(Some(same))
 }
 
 fn main(rt: HostRuntime) -> io::Result<()> {
     let mut input = Vec::new(rt.alloc());
     rt.stdin().take(TOO_LONG as u64).read_to_end(&mut input)?;
     if input.len() == TOO_LONG {
-        return say(&rt, b"input too long\n");
+        return println!(rt; "input too long");
     }
-    conclude(&rt, all(&rt, &input)?)
+    let mut cases: u64 = 0;
+    let mut differ: u64 = 0;
+    for line in input.split_inclusive(|&octet| octet == b'\n') {
+        if let Some(same) = judged(&rt, line.strip_suffix(b"\n").unwrap_or(line))? {
+            cases = cases.saturating_add(1);
+            differ = differ.saturating_add(u64::from(!same));
+        }
+    }
+    println!(rt; "{cases} cases, {differ} differ")
 }
