@@ -6,13 +6,15 @@ use Prim.Native.Nat.{ℕ, ◌^◌, ◌<◌}
 use contract.Lifetimes.{Lfts}
 use Rattle.std.specs.Borrow.{Bor, MutBor}
 use Rattle.octets.specs.Octets.{AreOctets}
-use Rattle.octets.specs.declared.Written.{Written}
+use Rattle.std.specs.Prelude.{Result}
+use Rattle.refusal.specs.declared.Refusal.{Refusal}
+use Rattle.octets.specs.Octets.{written_answer}
 use Rattle.nsa.specs.Fields.{writing, reading}
 use Rattle.pasa.specs.declared.bytes.PasaWritten.{PasaWritten}
 use Rattle.pasa.specs.declared.fields.PasaNsa.{PasaNsa}
 use Rattle.pasa.specs.Bytes.{pasa_written}
 use Rattle.pasa.specs.Fields.{pasa_nsa}
-use Rattle.pasa.proofs.bytes.pasa_written.Reads as written-reads
+use Rattle.pasa.proofs.bytes.PasaWrittenFromResultUsizeRefusal.from.Reads as written-reads
 use Rattle.pasa.proofs.fields.pasa_nsa_write.Reads as nsa-write-reads
 use Rattle.pasa.proofs.fields.pasa_nsa_read.Reads as nsa-read-reads
 
@@ -40,8 +42,8 @@ pub nsa_read_promise : (κs : Lfts 1) (fields : Slice) (r : PasaNsa)
 nsa_read_promise κs fields r h = h
 
 -- the struct of an answer to a writing, which the header's and the IPv6 form's exports make too
-pub written-asks-nothing : (w : Written) → written-reads.Asked tt (w, tt)
+pub written-asks-nothing : (w : Result ℕ Refusal) → written-reads.Asked tt (w, tt)
 written-asks-nothing w = tt
 
-pub written_promise : (w : Written) (r : PasaWritten) → written-reads.Learnt tt (w, tt) r (w, tt) → r ≡ pasa_written w
+pub written_promise : (w : Result ℕ Refusal) (r : PasaWritten) → written-reads.Learnt tt (w, tt) r (w, tt) → r ≡ pasa_written (written_answer w)
 written_promise w r h = h

@@ -14,7 +14,7 @@ use Rattle.pasa.specs.Journals.{pasa_block, pasa_recovered, pasa_record}
 use Rattle.pasa.specs.declared.journals.PasaBlock.{PasaBlock}
 use Rattle.pasa.specs.declared.journals.PasaRecovered.{PasaRecovered}
 use Rattle.pasa.specs.declared.journals.PasaRecord.{PasaRecord}
-use Rattle.pasa.proofs.children.pasa_node.Reads as node-reads
+use Rattle.pasa.proofs.children.PasaNodeFromNode.from.Reads as node-reads
 use Rattle.pasa.proofs.journals.pasa_journal_write.Reads as write-reads
 use Rattle.pasa.proofs.journals.pasa_journal_recover.Reads as recover-reads
 use Rattle.pasa.proofs.journals.pasa_journal_record.Reads as record-reads

@@ -26,7 +26,7 @@ use Rattle.batch.specs.Batch.{BatchEffect, next_hops}
 use Rattle.pasa.specs.Bytes.{pasa_written, pasa_read, pasa_address}
 use Rattle.pasa.specs.Paths.{pasa_listed}
 use Rattle.pasa.specs.Plans.{pasa_plan}
-use Rattle.pasa.proofs.children.node_of.Reads as node-of-reads
+use Rattle.pasa.proofs.children.NodeFromPasaNode.from.Reads as node-of-reads
 use Rattle.pasa.proofs.children.pasa_fresh.Reads as fresh-reads
 use Rattle.pasa.proofs.children.pasa_child_router.Reads as child-router-reads
 use Rattle.pasa.proofs.children.pasa_child_host.Reads as child-host-reads

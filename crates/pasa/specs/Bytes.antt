@@ -1,6 +1,6 @@
 -- The answers about octets as structs of plain numbers: the same numbers, in fields of the same names.
 use Rattle.address.specs.Address.{AddressAnswer}
-use Rattle.octets.specs.declared.Written.{Written}
+use Rattle.octets.specs.Octets.{Written}
 use Rattle.header.specs.Header.{HeaderAnswer}
 use Rattle.pasa.specs.declared.bytes.PasaWritten.{PasaWritten}
 use Rattle.pasa.specs.declared.bytes.PasaRead.{PasaRead}

@@ -2,8 +2,8 @@
 -- record has its two limits beside the counts.
 use Rattle.node.specs.Node.{address_at}
 use Rattle.node.specs.declared.Node.{Node}
-use Rattle.node.specs.declared.Given.{Given}
-use Rattle.node.specs.declared.Limited.{Limited}
+use Rattle.node.specs.Node.{Given}
+use Rattle.node.specs.Node.{Limited}
 pub use Rattle.pasa.specs.declared.children.PasaNode.{PasaNode}
 pub use Rattle.pasa.specs.declared.children.PasaChild.{PasaChild}
 pub use Rattle.pasa.specs.declared.children.PasaLimited.{PasaLimited}

@@ -1,8 +1,8 @@
 -- The answers about a journal as structs of plain numbers: the same numbers, in fields of the same names; but a record that is not found is all zeros.
 use Rattle.std.specs.Prelude.{ℕ, Bool, true, false, if◌then◌else◌}
-use Rattle.journal.specs.declared.Placed.{Placed}
-use Rattle.journal.specs.declared.Recovered.{Recovered}
-use Rattle.journal.specs.declared.Record.{Record}
+use Rattle.journal.specs.Writing.{Placed}
+use Rattle.journal.specs.Recovery.{Recovered}
+use Rattle.journal.specs.Record.{Record}
 use Rattle.pasa.specs.Children.{PasaNode, pasa_node}
 use Rattle.pasa.specs.declared.journals.PasaBlock.{PasaBlock}
 use Rattle.pasa.specs.declared.journals.PasaRecovered.{PasaRecovered}

@@ -31,13 +31,11 @@ pub extern "C" fn pasa_bit_length(address: u64) -> u32
 
 // 1 for a host's address, 0 for any other; neither the root nor zero is one.
 #[unsafe(no_mangle)]
+#[tactic(auto, unfolding(crate::specs::Addresses::host_answer))]
 pub extern "C" fn pasa_is_host(address: u64) -> u8
     ensures { result ≡ host_answer address }
 {
-    if Address::of(address).is_host() {
-        return 1;
-    }
-    0
+    u8::from(Address::of(address).is_host())
 }
 
 // The number of the interface, which its name carries too: include/pasa.h refers to the name, so that an object built with the header of

@@ -9,13 +9,14 @@ ghost use Rattle.batch.specs.Batch.{next_hops};
 use super::children::PasaNode;
 use address::Address;
 use batch::PasaHop;
+use node::Node;
 
 // The next hop for a packet to the destination, at the node with this record.
 #[unsafe(no_mangle)]
 pub extern "C" fn pasa_next_hop(node: PasaNode, destination: u64) -> PasaHop
     ensures { result ≡ pasa_hop (next_hop (node_of node) destination) }
 {
-    batch::pasa_hop(forward::next_hop(super::children::node_of(node), Address::of(destination)))
+    PasaHop::from(forward::next_hop(Node::from(node), Address::of(destination)))
 }
 
 // The next hop for a packet, at the node with this record.
@@ -23,7 +24,7 @@ pub extern "C" fn pasa_next_hop(node: PasaNode, destination: u64) -> PasaHop
 pub extern "C" fn pasa_packet_next_hop(node: PasaNode, packet: &[u8]) -> PasaHop
     ensures { result ≡ pasa_hop (packet_hop (node_of node) packet.now) }
 {
-    batch::pasa_hop(packet::next_hop(super::children::node_of(node), packet))
+    PasaHop::from(packet::next_hop(Node::from(node), packet))
 }
 
 // The next hops for many destinations, at the node with this record: as many as the shortest slice allows, which is the answer. What
@@ -39,11 +40,5 @@ pub extern "C" fn pasa_next_hops(
     ensures { record { count = result; nodes = nodes.new; actions = actions.new; refusals = refusals.new }
         ≡ next_hops (node_of node) destinations.now nodes.old actions.old refusals.old }
 {
-    batch::next_hops(
-        super::children::node_of(node),
-        destinations,
-        nodes,
-        actions,
-        refusals,
-    )
+    batch::next_hops(Node::from(node), destinations, nodes, actions, refusals)
 }

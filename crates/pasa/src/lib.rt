@@ -6,6 +6,11 @@
 // 64-bit number here, and zero in its place is refused as the crates below refuse it.
 #![tactic(auto)]
 
+ghost use Rattle.std.specs.Prelude.{◌≡◌};
+ghost use Rattle.refusal.specs.Outcome.{outcome_number};
+
+use refusal::Refusal;
+
 pub mod addresses;
 pub mod bytes;
 pub mod children;
@@ -14,3 +19,13 @@ pub mod forwarding;
 pub mod journals;
 pub mod paths;
 pub mod plans;
+
+// The refusal's number of an answer, 0 where it is done.
+fn number<T>(answer: &Result<T, Refusal>) -> u8
+    ensures { result ≡ outcome_number answer.now }
+{
+    match answer {
+        Ok(_) => 0,
+        Err(refusal) => refusal.number(),
+    }
+}

@@ -3,7 +3,7 @@ use Prim.Native.Nat.{ℕ, ◌≤◌}
 use mathlib.Core.Path.{◌≡◌, sym, ap, ◌∙◌, subst}
 use mathlib.Core.List.{List, ◌++◌}
 use lib.ListN.{length, take}
-use Rattle.octets.specs.declared.Written.{Written}
+use Rattle.octets.specs.Octets.{Written}
 use Rattle.octets.specs.Octets.{WriteEffect, wrote}
 use Rattle.nsa.specs.Fields.{writing, FieldsAnswer, found, reading}
 use Rattle.nsa.proofs.Demand2.{done-reads, fields_round_trip}

@@ -8,7 +8,7 @@ ghost use Rattle.pasa.specs.Journals.{pasa_block, pasa_recovered, pasa_record};
 
 use pasa::journals::{PasaBlock, PasaRecord, PasaRecovered};
 
-// Writes a block into the first erased slot of a journal, its bytes in order.
+// Writes a block into the first erased slot of a journal, part behind part.
 #[unsafe(no_mangle)]
 pub extern "C" fn pasa_journal_write(journal: &mut [u8], addresses: &[u64]) -> PasaBlock
     ensures { (result ≡ pasa_block (writing journal.old addresses.now).answer) × (journal.new ≡ (writing journal.old addresses.now).journal) }
