@@ -9,7 +9,7 @@ use Rattle.block.proofs.Promises.{all_are_promise, all_are-asks-nothing, is_bloc
 use Rattle.journal.specs.Recovery.{unfit, refuse_recovery}
 use Rattle.journal.specs.Reader.{begin}
 use Rattle.journal.proofs.RecoverLaws.{finished-known, finished-fault}
-use Rattle.journal.proofs.Promises.{refuse_promise, refuse-asks-nothing, unfit_promise, unfit-asks-nothing, take-slot_promise}
+use Rattle.journal.proofs.Promises.{one-recovered, one-placed, one-found, one-progress, unfit_promise, unfit-asks-nothing, take-slot_promise}
 use Rattle.journal.proofs.Promises.{take-slot-asks-nothing, finish_promise, finish-asks-nothing}
 use Rattle.reader.specs.SameAnswers.{asked, asked_all, by_reader}
 use Rattle.reader.proofs.Promises.{start_promise, start-asks-nothing, next_promise, next-asks-nothing, place_promise, place-asks-nothing}
@@ -32,7 +32,6 @@ journal-asks-nothing = record {
   journal_recover = recover-asks-nothing;
   journal_write = write-asks-nothing;
   journal_record = record_in_asks-nothing;
-  journal_refuse = refuse-asks-nothing;
   journal_unfit = unfit-asks-nothing;
   journal_take_slot = take-slot-asks-nothing;
   journal_finish = finish-asks-nothing;
@@ -54,7 +53,7 @@ journal-answers_as_defined = record {
   journal_recover = λ κs journal words words' r h. h;
   journal_write = λ κs journal xs journal' r h. h;
   journal_record = record_in_promise;
-  journal_refuse = refuse_promise;
+  journal_refuse = λ x. refl;
   journal_unfit = unfit_promise;
   journal_take_slot = take-slot_promise;
   journal_finish = finish_promise;
@@ -90,6 +89,17 @@ the_reader = record {
 pub journal-fields : JournalFields
 unfolding with_counts pasa_block pasa_recovered pasa_record bit node_in nobody
 journal-fields = record {
+  recovers = λ k. refl;
+  places = λ k. refl;
+  not_placed = λ x. refl;
+  finds = λ n. refl;
+  finds_none = refl;
+  goes_on = λ slot written nodes done. refl;
+  is_at_fault = λ slot written nodes x done. refl;
+  one_recovery_answer = one-recovered;
+  one_block_answer = one-placed;
+  one_record_answer = one-found;
+  one_progress = one-progress;
   block = λ p. refl;
   recovered = λ r. refl;
   its_record = λ r e. rw e;

@@ -13,7 +13,7 @@ use Rattle.node.specs.Refusals.{FitsAddress, inner, outer}
 use Rattle.node.specs.declared.Node.{Node}
 use Rattle.node.proofs.RefusalLaws.{good-records, setting-refusals}
 use Rattle.node.proofs.Settings.{sets_limits, one-setting, no_cap_good, no_cap_never, no_cap_order}
-use Rattle.node.proofs.Promises.{limit_promise, limit-asks-nothing, set-limit_promise, set-limit-asks-nothing}
+use Rattle.node.proofs.Promises.{one-limited, limit_promise, limit-asks-nothing, set-limit_promise, set-limit-asks-nothing}
 use Rattle.node.proofs.WrongRules.{past_limit_refuted, limitless_refuted, lifts_limits_refuted, one_limit_refuted, one_early_refuted, limit_last_refuted, limit_first_refuted}
 use Rattle.node.proofs.WrongRules.{sets_nothing_refuted, sets_below_refuted, sets_above_refuted, sets_cut_refuted, sets_both_refuted, sets_other_refuted, mends_record_refuted}
 use Rattle.forward.specs.Forward.{next_hop}
@@ -136,6 +136,9 @@ limit_code = record {
   pasa_limit_routers = limit-routers_promise;
   pasa_limit_hosts_asks = limit-hosts-asks-nothing;
   pasa_limit_hosts = limit-hosts_promise;
+  limit_set = λ n. refl;
+  limit_not_set = λ n x. refl;
+  one_setting_answer = one-limited;
   limited = λ l. refl;
 }
 

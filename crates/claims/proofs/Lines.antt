@@ -27,15 +27,17 @@ use Rattle.address.proofs.RefusalLaws.{address-refusals}
 use Rattle.address.proofs.Promises.{one-made, of_promise, of_asks-nothing, new_promise, new-asks-nothing, bit-length_promise, bit-length-asks-nothing, is_host_promise, is_host-asks-nothing, depth_promise, depth-asks-nothing, parent_promise, parent-asks-nothing}
 use Rattle.address.specs.Kinds.{IsRoot, IsRouter, IsHost}
 use Rattle.octets.specs.Octets.{octets, same}
-use Rattle.octets.specs.declared.Written.{Written}
+use Rattle.octets.specs.Octets.{Written}
 use Rattle.octets.proofs.Correspondence.{octets-one_to_one, value-zeros, same_exactly}
+use Rattle.refusal.proofs.Numbers.{some, one}
+use Rattle.octets.proofs.LentLaws.{one-written}
 use Rattle.octets.proofs.Promises.{put-asks-nothing, get_promise, get-asks-nothing}
 use Rattle.search.specs.Search.{child_end, first_bits}
 use Rattle.search.proofs.Words.{search_words}
 use Rattle.search.proofs.SearchLaws.{child_end_past}
 use Rattle.search.proofs.Ones.{child_end_leading}
 use Rattle.search.proofs.Promises.{child-end_promise, child-end-asks-nothing, child-end_by_bits_promise, child-end_by_bits-asks-nothing, same_child-end, first-bits_promise, first-bits-asks-nothing}
-use Rattle.header.specs.Header.{header_answer, size, place, header, reading}
+use Rattle.header.specs.Header.{size, place, header, reading}
 use Rattle.header.proofs.Opened.{reading-opened}
 use Rattle.header.proofs.Size.{fewest-octets}
 use Rattle.header.proofs.Writing.{length-header}
@@ -58,7 +60,7 @@ use Rattle.node.proofs.Children.{address-good, is_good-fresh}
 use Rattle.node.proofs.GivenChildren.{gives-children}
 use Rattle.node.proofs.RefusalLaws.{good-records, child-refusals}
 use Rattle.node.proofs.WrongRules.{refuses_all_refuted, root_is_host_refuted, host_first_refuted, one_too_many_refuted, short_of_limit_refuted, address_beside_refuted}
-use Rattle.node.proofs.Promises.{count_promise, count-asks-nothing, is_good_promise, is_good-asks-nothing, fresh_promise, fresh-asks-nothing, child_promise, child-asks-nothing}
+use Rattle.node.proofs.Promises.{one-given, count_promise, count-asks-nothing, is_good_promise, is_good-asks-nothing, fresh_promise, fresh-asks-nothing, child_promise, child-asks-nothing}
 use Rattle.forward.specs.Forward.{stop, HopAnswer, hop_answer, up_to, refused_hop, next_hop}
 use Rattle.forward.proofs.RefusalLaws.{hop-refusals, by_steps_lem}
 use Rattle.forward.proofs.WrongRules.{zero_first_refuted}
@@ -80,7 +82,7 @@ use Rattle.pasa.specs.Plans.{pasa_plan}
 use Rattle.pasa.specs.Addresses.{host_answer}
 use Rattle.route.proofs.Words.{path-words}
 use Rattle.route.proofs.RefusalLaws.{path-refusals}
-use Rattle.route.proofs.Promises.{path-asks-nothing, hops_promise, hops-asks-nothing}
+use Rattle.route.proofs.Promises.{one-listed, path-asks-nothing, hops_promise, hops-asks-nothing}
 use Rattle.line.specs.Line.{digits_of, after_digits, are_address, after_space, parsed, digit_text, address_text, decimal, lines, hops_text, refused_text, path_text, text_for, output_text}
 use Rattle.line.specs.Exactly.{line_of}
 use Rattle.line.specs.Decimal.{decimal_from, decimal_value}
@@ -92,7 +94,7 @@ use Rattle.line.proofs.Promises.{answer-asks-nothing}
 use Rattle.plan.proofs.RefusalLaws.{plan-refusals}
 use Rattle.plan.proofs.OneRule.{one_rule}
 use Rattle.plan.proofs.WrongRules.{refuses_all_refuted as refuses_all_plans-refuted, grammar_first_refuted, nodes_first_refuted, room_first_refuted, place_from_one_refuted, place_beside_refuted, writes_without_room_refuted, writes_root_refuted, root_uncounted_refuted, unlimited_refuted, routers_late_refuted}
-use Rattle.plan.proofs.Promises.{read-asks-nothing as plan-read-asks-nothing}
+use Rattle.plan.proofs.Promises.{one-planned, read-asks-nothing as plan-read-asks-nothing}
 use Rattle.known.specs.Known.{table}
 use Rattle.known.proofs.Proved.{known_values}
 use Rattle.tree.specs.Tree.{request, Event, asking, setting, Tree, bare_root, record_of, replaced, answered, asked_of, settled, setting_of, Reply, ask, happen, grow, grown}
@@ -113,7 +115,7 @@ use Rattle.claims.specs.Demand2.{Headers, Forms}
 use Rattle.claims.specs.Demand3.{tree_of, Growth, TreeWords, EveryList}
 use Rattle.claims.specs.NextHop.{HopAnswers, NextHop}
 use Rattle.claims.specs.Paths.{ThePath, example_line, example_text, refusal11, hops_word, binary, each_on_aline, TheLine}
-use Rattle.claims.specs.Structs.{Cases, OneAnswer, Fields}
+use Rattle.claims.specs.Structs.{RefusalNumbers, Cases, OneAnswer, Fields}
 use Rattle.claims.specs.Excluded.{KnownRows, ValuesOfThree, WrongNextHops, WrongChildren, OneHeaderRule, OnePlanRule, WrongPlanRules, WrongWritersAndReaders, HoldOfOurs}
 use Rattle.claims.specs.Code.{AsksNothing, AnswersAsDefined, TheSearch}
 use Rattle.claims.specs.Exports.{ExportsAskNothing, ExportsAnswerAsDefined}
@@ -735,21 +737,52 @@ exports_answer_as_defined = record {
 
 -- ---- answers and structs, number by number
 
+pub refusal_numbers : RefusalNumbers
+refusal_numbers = record {
+  one_to_six = (refl, refl, refl, refl, refl, refl);
+  seven_to_twelve = (refl, refl, refl, refl, refl);
+  thirteen_on = (refl, refl, refl, refl, refl);
+  none_zero = some;
+  no_two_alike = one;
+  number_asks = λ x. tt;
+  number = λ x r h. h;
+}
+
 pub cases : Cases
-unfolding header_answer hop_answer
+unfolding hop_answer
 cases = record {
   valid = λ a. refl;
-  not_made = λ k. refl;
-  found = λ a place. refl;
-  not_read = λ k. refl;
+  not_made = λ x. refl;
+  found = λ h. refl;
+  not_read = λ x. refl;
+  written = λ k. refl;
+  not_written = λ x. refl;
+  given = λ n a. refl;
+  not_given = λ n x. refl;
+  listed = λ k. refl;
+  not_listed = λ x. refl;
+  planned = λ k. refl;
+  outside_grammar = λ k. refl;
+  plan_too_many = refl;
+  plan_too_long = refl;
+  plan_no_room = refl;
   delivers = λ a. refl;
   passes_up = λ a. refl;
   passes_down = λ a. refl;
-  stops = λ k. refl;
+  stops = λ x. refl;
 }
 
 pub one_answer : OneAnswer
-one_answer = record { an_address = one-made; a_header = one-reading; a_form = one-form_reading; a_hop = one-hop }
+one_answer = record {
+  an_address = one-made;
+  a_header = one-reading;
+  a_form = one-form_reading;
+  a_writing = one-written;
+  a_child = one-given;
+  a_path = one-listed;
+  a_plan = one-planned;
+  a_hop = one-hop;
+}
 
 pub fields : Fields
 unfolding node_of pasa_node pasa_child pasa_hop action_number pasa_written pasa_read pasa_address pasa_listed pasa_plan host_answer

@@ -7,9 +7,9 @@ use native.Mathlib.Omega.{arith}
 use borrow.Author.Tests.{lt-ltb}
 use lib.Dec.{lit<}
 use lib.ListN.{length, take, get_or, replicate}
-use Rattle.octets.specs.declared.Written.{Written}
+use Rattle.octets.specs.Octets.{Written}
 use Rattle.octets.specs.Octets.{AreOctets, octets, value, joined, WriteEffect, wrote, refuse_writing, write}
-use Rattle.nsa.specs.Fields.{length_field, long_octets, address_field, fields, writing, number_reading, length_reading, counted_reading, address_reading, source_reading, destination_reading, FieldsAnswer, found, fields_answer, reading}
+use Rattle.nsa.specs.Fields.{length_field, long_octets, address_field, fields, writing, number_reading, length_reading, counted_reading, address_reading, source_reading, destination_reading, FieldsAnswer, found, reading}
 use Rattle.nsa.specs.Forms.{LengthForm, length_alone, length_one, length_two, AddressForm, address_alone, address_two, address_four, address_counted}
 use Rattle.nsa.proofs.Writing.{length_field_alone, length_field-one, length_field_two, address_field_alone, address_field_two, address_field_four, address_field-counted, long_octets_five, long_octets_six, long_octets_seven, long_octets_eight, writing-long}
 use Rattle.octets.proofs.Correspondence.{octets-one_to_one}
@@ -208,10 +208,10 @@ values_of_seven = record {
 }
 
 pub older_code : OlderCode
-unfolding fields_answer pasa_nsa pasa_written
+unfolding pasa_nsa pasa_written
 older_code = record {
   three_found = λ f k. refl;
-  not_found = λ n. refl;
+  not_found = λ x. refl;
   one_answer = one-reading;
   nsa_write_asks = write-asks-nothing;
   nsa_write = write_promise;

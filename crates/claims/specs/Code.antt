@@ -1,31 +1,29 @@
 -- What the code promises is what the claims speak of. `Asked` and `Learnt` are read off the functions' own contracts: what a caller must show, and
 -- what it learns of the result and of all that was lent. Each
 -- public function asks nothing, and what it answers is what its definition says; the exports, and the functions of Four, Five and Seven, have pages of their own.
-use Rattle.std.specs.Prelude.{ℕ, ◌+◌, ◌-◌, ◌*◌, ◌/◌, ◌%◌, ◌^◌, ◌<◌, ◌≤◌, ◌≡◌, Bool, List, length}
+use Rattle.std.specs.Prelude.{ℕ, ◌+◌, ◌-◌, ◌*◌, ◌/◌, ◌%◌, ◌^◌, ◌<◌, ◌≤◌, ◌≡◌, Bool, List, length, Result}
+use Rattle.refusal.specs.declared.Refusal.{Refusal}
 use Rattle.std.specs.Int.Count.{count_leading_zeros}
 use contract.Lifetimes.{Lfts}
 use Rattle.std.specs.Borrow.{Bor, MutBor}
 use Rattle.address.specs.declared.Address.{Address}
 use Rattle.address.specs.declared.Kind.{Kind}
-use Rattle.address.specs.declared.Made.{Made}
 use Rattle.address.specs.Bits.{bits}
 use Rattle.address.specs.Address.{made_answer, made, bit_length, is_host, depth, parent}
-use Rattle.octets.specs.declared.Written.{Written}
-use Rattle.octets.specs.Octets.{octets, value}
+use Rattle.octets.specs.Octets.{octets, value, written_answer}
 use Rattle.search.specs.Search.{child_end, first_bits}
-use Rattle.header.specs.declared.Reading.{Reading}
+use Rattle.header.specs.declared.Header.{Header}
 use Rattle.header.specs.Header.{header_answer, writing, reading}
 use Rattle.ipv6.specs.Form.{form_writing, form_reading}
 use Rattle.node.specs.declared.Node.{Node}
-use Rattle.node.specs.declared.Given.{Given}
-use Rattle.node.specs.Node.{fresh, count, is_good, child_of}
+use Rattle.node.specs.declared.Handed.{Handed}
+use Rattle.node.specs.Node.{fresh, count, is_good, child_of, given_answer}
 use Rattle.forward.specs.declared.Hop.{Hop}
 use Rattle.forward.specs.Forward.{hop_answer, next_hop}
 use Rattle.packet.specs.Packet.{packet_hop}
-use Rattle.route.specs.declared.Listed.{Listed}
-use Rattle.route.specs.Path.{path, hops, listing}
-use Rattle.plan.specs.Plan.{planning}
-use Rattle.plan.specs.declared.Planned.{Planned}
+use Rattle.route.specs.Path.{path, hops, listing, listed_answer}
+use Rattle.plan.specs.declared.PlanRefusal.{PlanRefusal}
+use Rattle.plan.specs.Plan.{planned_answer, planning}
 use Rattle.line.specs.Line.{answering}
 use Rattle.batch.specs.declared.PasaHop.{PasaHop}
 use Rattle.batch.specs.Exported.{pasa_hop}
@@ -45,9 +43,9 @@ use Rattle.search.proofs.child_end_by_bits.Reads as child-end-by-bits-reads
 use Rattle.search.proofs.first_bits.Reads as first-bits-reads
 use Rattle.node.proofs.Node.count.Reads as count-reads
 use Rattle.node.proofs.Node.is_good.Reads as is-good-reads
-use Rattle.batch.proofs.pasa_hop.Reads as pasa-hop-reads
+use Rattle.batch.proofs.PasaHopFromResultHopRefusal.from.Reads as pasa-hop-reads
 use Rattle.batch.proofs.next_hops.Reads as next-hops-reads
-use Rattle.pasa.proofs.children.node_of.Reads as node-of-reads
+use Rattle.pasa.proofs.children.NodeFromPasaNode.from.Reads as node-of-reads
 use Rattle.node.proofs.Node.fresh.Reads as fresh-reads
 use Rattle.node.proofs.Node.child.Reads as child-reads
 use Rattle.forward.proofs.next_hop.Reads as next-hop-reads
@@ -95,7 +93,7 @@ pub record AsksNothing : Type 0 where
   pub route_hops : (a d : Address) → hops-reads.Asked tt (a, (d, tt))
   pub line_answer : (κs : Lfts 2) (input : Slice) (out : SliceMut) → line_reads.Asked κs (input, (out, tt))
   pub plan_read : (κs : Lfts 2) (text : Slice) (words : SliceMut) → plan-reads.Asked κs (text, (words, tt))
-  pub batch_hop : (h : Hop) → pasa-hop-reads.Asked tt (h, tt)
+  pub batch_hop : (h : Result Hop Refusal) → pasa-hop-reads.Asked tt (h, tt)
   pub batch_next_hops : (κs : Lfts 4) (n : Node) (ds : Slice) (nodes actions refusals : SliceMut)
       → next-hops-reads.Asked κs (n, (ds, (nodes, (actions, (refusals, tt)))))
   pub pasa_node_of : (n : PasaNode) → node-of-reads.Asked tt (n, tt)
@@ -117,29 +115,29 @@ pub record AnswersAsDefined : Type 0 where
       → r.number ≡ first_bits count a.number
   pub node_count : (n : Node) (kind : Kind) (r : ℕ) → count-reads.Learnt tt (n, (kind, tt)) r (n, (kind, tt)) → r ≡ count kind n
   pub node_is_good : (n : Node) (r : Bool) → is-good-reads.Learnt tt (n, tt) r (n, tt) → r ≡ is_good n
-  pub address_new : (n : ℕ) (r : Made) → new-reads.Learnt tt (n, tt) r (n, tt) → made_answer r ≡ made n
+  pub address_new : (n : ℕ) (r : Result Address Refusal) → new-reads.Learnt tt (n, tt) r (n, tt) → made_answer r ≡ made n
   pub node_fresh : (a : Address) (r : Node) → fresh-reads.Learnt tt (a, tt) r (a, tt) → r ≡ fresh a.number
-  pub node_child : (n : Node) (kind : Kind) (r : Given) → child-reads.Learnt tt (n, (kind, tt)) r (n, (kind, tt)) → r ≡ child_of n kind
-  pub next_hop_of : (n : Node) (d : Address) (r : Hop) → next-hop-reads.Learnt tt (n, (d, tt)) r (n, (d, tt)) → hop_answer r ≡ next_hop n d.number
-  pub packet_hop_of : (κs : Lfts 1) (n : Node) (p : Slice) (r : Hop) → packet-next-hop-reads.Learnt κs (n, (p, tt)) r (n, (p, tt))
+  pub node_child : (n : Node) (kind : Kind) (r : Handed Address) → child-reads.Learnt tt (n, (kind, tt)) r (n, (kind, tt)) → given_answer r ≡ child_of n kind
+  pub next_hop_of : (n : Node) (d : Address) (r : Result Hop Refusal) → next-hop-reads.Learnt tt (n, (d, tt)) r (n, (d, tt)) → hop_answer r ≡ next_hop n d.number
+  pub packet_hop_of : (κs : Lfts 1) (n : Node) (p : Slice) (r : Result Hop Refusal) → packet-next-hop-reads.Learnt κs (n, (p, tt)) r (n, (p, tt))
       → hop_answer r ≡ packet_hop n p.now
-  pub header_write : (κs : Lfts 1) (a : Address) (out out' : SliceMut) (r : Written) → header-write-reads.Learnt κs (a, (out, tt)) r (a, (out', tt))
-      → (r ≡ (writing a.number out.now).answer) × (out'.now ≡ (writing a.number out.now).buffer)
-  pub header_read : (κs : Lfts 1) (p : Slice) (r : Reading) → header-read-reads.Learnt κs (p, tt) r (p, tt) → header_answer r ≡ reading p.now
-  pub form_write : (κs : Lfts 2) (prefix : Slice) (a : Address) (out out' : SliceMut) (r : Written)
+  pub header_write : (κs : Lfts 1) (a : Address) (out out' : SliceMut) (r : Result ℕ Refusal) → header-write-reads.Learnt κs (a, (out, tt)) r (a, (out', tt))
+      → (written_answer r ≡ (writing a.number out.now).answer) × (out'.now ≡ (writing a.number out.now).buffer)
+  pub header_read : (κs : Lfts 1) (p : Slice) (r : Result Header Refusal) → header-read-reads.Learnt κs (p, tt) r (p, tt) → header_answer r ≡ reading p.now
+  pub form_write : (κs : Lfts 2) (prefix : Slice) (a : Address) (out out' : SliceMut) (r : Result ℕ Refusal)
       → form-write-reads.Learnt κs (prefix, (a, (out, tt))) r (prefix, (a, (out', tt)))
-      → (r ≡ (form_writing prefix.now a.number out.now).answer) × (out'.now ≡ (form_writing prefix.now a.number out.now).buffer)
-  pub form_read : (κs : Lfts 2) (prefix ipv6 : Slice) (r : Made) → form-read-reads.Learnt κs (prefix, (ipv6, tt)) r (prefix, (ipv6, tt))
+      → (written_answer r ≡ (form_writing prefix.now a.number out.now).answer) × (out'.now ≡ (form_writing prefix.now a.number out.now).buffer)
+  pub form_read : (κs : Lfts 2) (prefix ipv6 : Slice) (r : Result Address Refusal) → form-read-reads.Learnt κs (prefix, (ipv6, tt)) r (prefix, (ipv6, tt))
       → made_answer r ≡ form_reading prefix.now ipv6.now
-  pub path_call : (κs : Lfts 1) (a d : Address) (words words' : SliceMut) (r : Listed)
+  pub path_call : (κs : Lfts 1) (a d : Address) (words words' : SliceMut) (r : Result ℕ Refusal)
       → path-reads.Learnt κs (a, (d, (words, tt))) r (a, (d, (words', tt)))
-      → (r ≡ (listing a.number d.number words.now).answer) × (words'.now ≡ (listing a.number d.number words.now).words)
+      → (listed_answer r ≡ (listing a.number d.number words.now).answer) × (words'.now ≡ (listing a.number d.number words.now).words)
   pub route_hops : (a d : Address) (r : ℕ) → hops-reads.Learnt tt (a, (d, tt)) r (a, (d, tt)) → r ≡ hops (path a.number d.number)
-  pub line_answer : (κs : Lfts 2) (input : Slice) (out out' : SliceMut) (r : Written) → line_reads.Learnt κs (input, (out, tt)) r (input, (out', tt))
-      → (r ≡ (answering input.now out.now).answer) × (out'.now ≡ (answering input.now out.now).buffer)
-  pub plan_read : (κs : Lfts 2) (text : Slice) (words words' : SliceMut) (r : Planned) → plan-reads.Learnt κs (text, (words, tt)) r (text, (words', tt))
-      → (r ≡ (planning text.now words.now).answer) × (words'.now ≡ (planning text.now words.now).words)
-  pub batch_hop : (h : Hop) (r : PasaHop) → pasa-hop-reads.Learnt tt (h, tt) r (h, tt) → r ≡ pasa_hop (hop_answer h)
+  pub line_answer : (κs : Lfts 2) (input : Slice) (out out' : SliceMut) (r : Result ℕ Refusal) → line_reads.Learnt κs (input, (out, tt)) r (input, (out', tt))
+      → (written_answer r ≡ (answering input.now out.now).answer) × (out'.now ≡ (answering input.now out.now).buffer)
+  pub plan_read : (κs : Lfts 2) (text : Slice) (words words' : SliceMut) (r : Result ℕ PlanRefusal) → plan-reads.Learnt κs (text, (words, tt)) r (text, (words', tt))
+      → (planned_answer r ≡ (planning text.now words.now).answer) × (words'.now ≡ (planning text.now words.now).words)
+  pub batch_hop : (h : Result Hop Refusal) (r : PasaHop) → pasa-hop-reads.Learnt tt (h, tt) r (h, tt) → r ≡ pasa_hop (hop_answer h)
   pub batch_next_hops : (κs : Lfts 4) (n : Node) (ds : Slice) (nodes actions refusals nodes' actions' refusals' : SliceMut) (r : ℕ)
       → next-hops-reads.Learnt κs (n, (ds, (nodes, (actions, (refusals, tt))))) r (n, (ds, (nodes', (actions', (refusals', tt)))))
       → ◌≡◌ {A = BatchEffect} record { count = r; nodes = nodes'.now; actions = actions'.now; refusals = refusals'.now }

@@ -13,7 +13,7 @@ use Rattle.ipv6.specs.Form.{form, form_writing, form_reading}
 use Rattle.node.specs.Node.{address_in, fresh, count, limit, child_of}
 use Rattle.node.specs.Refusals.{IsGood, IsBad}
 use Rattle.node.specs.declared.Node.{Node}
-use Rattle.node.specs.declared.Given.{Given}
+use Rattle.node.specs.Node.{Given}
 use Rattle.forward.specs.Forward.{stop, next_hop}
 use Rattle.forward.specs.Refusals.{ChildNotGiven}
 use Rattle.packet.specs.Packet.{packet_hop}

@@ -1,6 +1,9 @@
 -- What the code of request Four promises is what the page Journals speaks of, each function by its own contract, and none asks anything; then the
 -- exported structs and the exports.
-use Rattle.std.specs.Prelude.{ℕ, suc, ◌-◌, ◌/◌, ◌≡◌, Bool, true, false, ◌↔◌, List, ◌++◌, length, take, replicate, set}
+use Rattle.std.specs.Prelude.{ℕ, suc, ◌-◌, ◌/◌, ◌≡◌, Bool, true, false, ◌↔◌, List, ◌++◌, length, take, replicate, set, Option, Some, None, Result, Ok, Err}
+use Rattle.refusal.specs.declared.Refusal.{Refusal}
+use Rattle.refusal.specs.Refusal.{number_of}
+use Rattle.refusal.specs.Outcome.{outcome_number}
 use seplogic.Ra.Ura.{Ura}
 use base.Logic.{SProp, emp}
 use prog.Memory.{Memory}
@@ -11,20 +14,18 @@ use contract.Monad.{Fun, fact}
 use Rattle.std.specs.Borrow.{Bor, MutBor}
 use denote.Triple.Clauses.{AtExit}
 use Rattle.address.specs.declared.Address.{Address}
-use Rattle.node.specs.Node.{with_counts}
+use Rattle.node.specs.Node.{fresh, with_counts}
 use Rattle.node.specs.declared.Node.{Node}
 use Rattle.crc.specs.Crc.{crc}
 use Rattle.block.specs.Block.{block_put, all_are, is_block}
-use Rattle.journal.specs.Recovery.{unfit, recovering}
-use Rattle.journal.specs.Reader.{step, finished}
-use Rattle.journal.specs.Writing.{writing}
-use Rattle.journal.specs.Record.{record_in}
-use Rattle.journal.specs.declared.Recovered.{Recovered}
-use Rattle.journal.specs.declared.Placed.{Placed}
-use Rattle.journal.specs.declared.Progress.{Progress}
-use Rattle.journal.specs.declared.Record.{Record}
+use Rattle.journal.specs.Recovery.{Recovered, recovered_answer, unfit, recovering}
+use Rattle.journal.specs.Reader.{Progress, progress_answer, step, finished}
+use Rattle.journal.specs.Writing.{Placed, placed_answer, writing}
+use Rattle.journal.specs.Record.{Record, record_answer, record_in}
+use Rattle.journal.specs.declared.Progress.{Progress as ProgressOfCode}
 use Rattle.reader.specs.declared.Reader.{Reader}
-use Rattle.reader.specs.declared.Taken.{Taken}
+use Rattle.reader.specs.Reader.{taken_answer}
+use Rattle.reader.specs.declared.Taken.{Taken as TakenOfCode}
 use Rattle.reader.specs.SameAnswers.{Answer, ReaderRule, reading, asked, asked_all, by_reader, SameAnswers}
 use Rattle.reader.specs.contracts.Reader.start as start
 use Rattle.reader.specs.contracts.Reader.next as next
@@ -41,14 +42,13 @@ use Rattle.block.proofs.all_are.Reads as all-are-reads
 use Rattle.block.proofs.is_block.Reads as is-block-reads
 use Rattle.block.proofs.put.Reads as put_reads
 use Rattle.journal.proofs.recover.Reads as recover-reads
-use Rattle.journal.proofs.refuse.Reads as refuse-reads
 use Rattle.journal.proofs.unfit.Reads as unfit-reads
 use Rattle.journal.proofs.take_slot.Reads as take-slot-reads
 use Rattle.journal.proofs.finish.Reads as finish-reads
 use Rattle.journal.proofs.write.Reads as write-reads
 use Rattle.reader.proofs.recover.Reads as reader-recover-reads
 use Rattle.journal.proofs.record_in.Reads as record-in-reads
-use Rattle.pasa.proofs.children.pasa_node.Reads as pasa-node-reads
+use Rattle.pasa.proofs.children.PasaNodeFromNode.from.Reads as pasa-node-reads
 use Rattle.pasa.proofs.journals.pasa_journal_write.Reads as pasa-write-reads
 use Rattle.pasa.proofs.journals.pasa_journal_recover.Reads as pasa-recover-reads
 use Rattle.pasa.proofs.journals.pasa_journal_record.Reads as pasa-record-reads
@@ -71,11 +71,10 @@ pub record JournalAsksNothing : Type 0 where
   pub journal_recover : (κs : Lfts 2) (journal : Slice) (words : SliceMut) → recover-reads.Asked κs (journal, (words, tt))
   pub journal_write : (κs : Lfts 2) (journal : SliceMut) (xs : Slice) → write-reads.Asked κs (journal, (xs, tt))
   pub journal_record : (κs : Lfts 1) (words : Slice) (a : Address) → record-in-reads.Asked κs (words, (a, tt))
-  pub journal_refuse : (number : ℕ) → refuse-reads.Asked tt (number, tt)
   pub journal_unfit : (bytes words : ℕ) → unfit-reads.Asked tt (bytes, (words, tt))
   pub journal_take_slot : (κs : Lfts 2) (journal : Slice) (slot : ℕ) (words : SliceMut) (written nodes : ℕ)
       → take-slot-reads.Asked κs (journal, (slot, (words, (written, (nodes, tt)))))
-  pub journal_finish : (κs : Lfts 1) (end : Progress) (words : SliceMut) → finish-reads.Asked κs (end, (words, tt))
+  pub journal_finish : (κs : Lfts 1) (end : ProgressOfCode) (words : SliceMut) → finish-reads.Asked κs (end, (words, tt))
   pub reader_recover : (κs : Lfts 2) (journal : Slice) (words : SliceMut) → reader-recover-reads.Asked κs (journal, (words, tt))
   pub pasa_node_to : (n : Node) → pasa-node-reads.Asked tt (n, tt)
   pub pasa_journal_write : (κs : Lfts 2) (journal : SliceMut) (xs : Slice) → pasa-write-reads.Asked κs (journal, (xs, tt))
@@ -92,27 +91,28 @@ pub record JournalAnswersAsDefined : Type 0 where
   pub block_is_block : (κs : Lfts 1) (slot : Slice) (r : Bool) → is-block-reads.Learnt κs (slot, tt) r (slot, tt) → r ≡ is_block slot.now
   pub block_put_in : (κs : Lfts 2) (xs : Slice) (slot slot' : SliceMut) → put_reads.Learnt κs (xs, (slot, tt)) tt (xs, (slot', tt))
       → slot'.now ≡ block_put xs.now slot.now
-  pub journal_recover : (κs : Lfts 2) (journal : Slice) (words words' : SliceMut) (r : Recovered)
+  pub journal_recover : (κs : Lfts 2) (journal : Slice) (words words' : SliceMut) (r : Result ℕ Refusal)
       → recover-reads.Learnt κs (journal, (words, tt)) r (journal, (words', tt))
-      → (r ≡ (recovering journal.now words.now).answer) × (words'.now ≡ (recovering journal.now words.now).words)
-  pub journal_write : (κs : Lfts 2) (journal : SliceMut) (xs : Slice) (journal' : SliceMut) (r : Placed)
+      → (recovered_answer r ≡ (recovering journal.now words.now).answer) × (words'.now ≡ (recovering journal.now words.now).words)
+  pub journal_write : (κs : Lfts 2) (journal : SliceMut) (xs : Slice) (journal' : SliceMut) (r : Result ℕ Refusal)
       → write-reads.Learnt κs (journal, (xs, tt)) r (journal', (xs, tt))
-      → (r ≡ (writing journal.now xs.now).answer) × (journal'.now ≡ (writing journal.now xs.now).journal)
-  pub journal_record : (κs : Lfts 1) (words : Slice) (a : Address) (r : Record)
-      → record-in-reads.Learnt κs (words, (a, tt)) r (words, (a, tt)) → r ≡ record_in words.now a.number
+      → (placed_answer r ≡ (writing journal.now xs.now).answer) × (journal'.now ≡ (writing journal.now xs.now).journal)
+  pub journal_record : (κs : Lfts 1) (words : Slice) (a : Address) (r : Option Node)
+      → record-in-reads.Learnt κs (words, (a, tt)) r (words, (a, tt)) → record_answer r ≡ record_in words.now a.number
   -- the parts of recovery, which the reader shares
-  pub journal_refuse : (number : ℕ) (r : Recovered) → refuse-reads.Learnt tt (number, tt) r (number, tt) → r ≡ record { refusal = number; nodes = 0 }
-  pub journal_unfit : (bytes words r : ℕ) → unfit-reads.Learnt tt (bytes, (words, tt)) r (bytes, (words, tt)) → r ≡ unfit bytes words
-  pub journal_take_slot : (κs : Lfts 2) (journal : Slice) (slot : ℕ) (words words' : SliceMut) (written nodes : ℕ) (r : Progress)
+  pub journal_refuse : (x : Refusal) → recovered_answer (Err x) ≡ record { refusal = number_of x; nodes = 0 }
+  pub journal_unfit : (bytes words : ℕ) (r : Result (Unit {0}) Refusal) → unfit-reads.Learnt tt (bytes, (words, tt)) r (bytes, (words, tt))
+      → outcome_number r ≡ unfit bytes words
+  pub journal_take_slot : (κs : Lfts 2) (journal : Slice) (slot : ℕ) (words words' : SliceMut) (written nodes : ℕ) (r : ProgressOfCode)
       → take-slot-reads.Learnt κs (journal, (slot, (words, (written, (nodes, tt))))) r (journal, (slot, (words', (written, (nodes, tt)))))
-      → (r ≡ (step journal.now slot written nodes words.now).progress) × (words'.now ≡ (step journal.now slot written nodes words.now).words)
-  pub journal_finish : (κs : Lfts 1) (end : Progress) (words words' : SliceMut) (r : Recovered)
+      → (progress_answer r ≡ (step journal.now slot written nodes words.now).progress) × (words'.now ≡ (step journal.now slot written nodes words.now).words)
+  pub journal_finish : (κs : Lfts 1) (end : ProgressOfCode) (words words' : SliceMut) (r : Result ℕ Refusal)
       → finish-reads.Learnt κs (end, (words, tt)) r (end, (words', tt))
-      → (r ≡ (finished end words.now).answer) × (words'.now ≡ (finished end words.now).words)
+      → (recovered_answer r ≡ (finished (progress_answer end) words.now).answer) × (words'.now ≡ (finished (progress_answer end) words.now).words)
   -- recovery by a reader: the contract of recovery
-  pub reader_recover : (κs : Lfts 2) (journal : Slice) (words words' : SliceMut) (r : Recovered)
+  pub reader_recover : (κs : Lfts 2) (journal : Slice) (words words' : SliceMut) (r : Result ℕ Refusal)
       → reader-recover-reads.Learnt κs (journal, (words, tt)) r (journal, (words', tt))
-      → (r ≡ (recovering journal.now words.now).answer) × (words'.now ≡ (recovering journal.now words.now).words)
+      → (recovered_answer r ≡ (recovering journal.now words.now).answer) × (words'.now ≡ (recovering journal.now words.now).words)
   pub pasa_node_to : (n : Node) (r : PasaNode) → pasa-node-reads.Learnt tt (n, tt) r (n, tt) → r ≡ pasa_node n
   pub pasa_journal_write : (κs : Lfts 2) (journal : SliceMut) (xs : Slice) (journal' : SliceMut) (r : PasaBlock)
       → pasa-write-reads.Learnt κs (journal, (xs, tt)) r (journal', (xs, tt))
@@ -170,10 +170,10 @@ pub record TheReader : Type 2 where
       → ((start.clauses 𝓛 mem run κs (journal, tt)).requires tt ≡ emp 𝓤)
       × ((start.clauses 𝓛 mem run κs (journal, tt)).ensures tt r end ≡ fact 𝓤 (r ≡ record { journal = journal; slot = 0 }))
   pub takes : {M : Type 1} {𝓤 : Ura M} (𝓛 : Logic 𝓤) (mem : Memory → SProp 𝓤) (run : Routine → Fun 𝓤) (κs : Lfts 2) (reader : Reader)
-      (words : SliceMut) (written nodes : ℕ) (r : Taken) (end : AtExit next.ended κs)
+      (words : SliceMut) (written nodes : ℕ) (r : TakenOfCode) (end : AtExit next.ended κs)
       → ((next.clauses 𝓛 mem run κs (reader, (words, (written, (nodes, tt))))).requires tt ≡ emp 𝓤)
       × ((next.clauses 𝓛 mem run κs (reader, (words, (written, (nodes, tt))))).ensures tt r end
-      ≡ fact 𝓤 ((r ≡ (reading reader written nodes words.now).taken) × (end.1.0.now ≡ (reading reader written nodes words.now).words)))
+      ≡ fact 𝓤 ((taken_answer r ≡ (reading reader written nodes words.now).taken) × (end.1.0.now ≡ (reading reader written nodes words.now).words)))
   pub its_place : {M : Type 1} {𝓤 : Ura M} (𝓛 : Logic 𝓤) (mem : Memory → SProp 𝓤) (run : Routine → Fun 𝓤) (κs : Lfts 1) (reader : Reader)
       (n : ℕ) (end : AtExit place.ended κs)
       → ((place.clauses 𝓛 mem run κs (reader, tt)).requires tt ≡ emp 𝓤)
@@ -181,6 +181,22 @@ pub record TheReader : Type 2 where
 
 -- the same numbers in fields of the same names, and no field more; a node that is not found is all zeros
 pub record JournalFields : Type 0 where
+  -- the papers' numbers for each case of an answer, and they leave one answer; what a refused recovery comes to is `journal_refuse` above
+  pub recovers : (k : ℕ) → recovered_answer (Ok k) ≡ record { refusal = 0; nodes = k }
+  pub places : (k : ℕ) → placed_answer (Ok k) ≡ record { refusal = 0; slot = k }
+  pub not_placed : (x : Refusal) → placed_answer (Err x) ≡ record { refusal = number_of x; slot = 0 }
+  pub finds : (n : Node) → record_answer (Some n) ≡ record { node = n; found = true }
+  pub finds_none : record_answer None ≡ record { node = fresh 0; found = false }
+  pub goes_on : (slot written nodes : ℕ) (done : Bool)
+      → progress_answer (record { slot = slot; written = written; nodes = nodes; refusal = None; done = done })
+      ≡ record { slot = slot; written = written; nodes = nodes; refusal = 0; done = done }
+  pub is_at_fault : (slot written nodes : ℕ) (x : Refusal) (done : Bool)
+      → progress_answer (record { slot = slot; written = written; nodes = nodes; refusal = Some x; done = done })
+      ≡ record { slot = slot; written = written; nodes = nodes; refusal = number_of x; done = done }
+  pub one_recovery_answer : (r s : Result ℕ Refusal) → recovered_answer r ≡ recovered_answer s → r ≡ s
+  pub one_block_answer : (r s : Result ℕ Refusal) → placed_answer r ≡ placed_answer s → r ≡ s
+  pub one_record_answer : (r s : Option Node) → record_answer r ≡ record_answer s → r ≡ s
+  pub one_progress : (r s : ProgressOfCode) → progress_answer r ≡ progress_answer s → r ≡ s
   pub block : (p : Placed) → pasa_block p ≡ record { slot = p.slot; refusal = p.refusal }
   pub recovered : (r : Recovered) → pasa_recovered r ≡ record { nodes = r.nodes; refusal = r.refusal }
   pub its_record : (r : Record) → r.found ≡ true → pasa_record r ≡ record { node = pasa_node r.node; found = 1 }

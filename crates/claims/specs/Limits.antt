@@ -1,7 +1,9 @@
 -- Request Five: limits per node. What a limit makes of a record, and a fresh one, stand with the record (Addresses), 15 with the refusals of a child
 -- (Demand1), settings in a list with demand 3 (Demand3), recovered nodes with the journal (Journals), and C's fields with the structs (Structs). Here
 -- are the settings themselves, what the code of Five promises, and the wrong rules.
-use Rattle.std.specs.Prelude.{ℕ, ◌+◌, ◌-◌, ◌^◌, ◌<◌, ◌≤◌, ◌≡◌, true, ◌⊎◌, ◌↔◌, List, [], ◌∷◌, ◌++◌, length}
+use Rattle.std.specs.Prelude.{ℕ, ◌+◌, ◌-◌, ◌^◌, ◌<◌, ◌≤◌, ◌≡◌, true, ◌⊎◌, ◌↔◌, List, [], ◌∷◌, ◌++◌, length, Ok, Err}
+use Rattle.refusal.specs.declared.Refusal.{Refusal}
+use Rattle.refusal.specs.Refusal.{number_of}
 use Rattle.address.specs.Order.{done, ◌when◌otherwise◌, GivenExactly}
 use Rattle.address.specs.Bits.{root}
 use Rattle.address.specs.Address.{bit_length}
@@ -12,9 +14,8 @@ use Rattle.header.specs.Header.{header}
 use Rattle.address.specs.declared.Kind.{Kind}
 use Rattle.address.specs.declared.Kind.TheVariants.{Router, Host}
 use Rattle.node.specs.declared.Node.{Node}
-use Rattle.node.specs.declared.Given.{Given}
-use Rattle.node.specs.declared.Limited.{Limited}
-use Rattle.node.specs.Node.{address_in, fresh, with_counts, count, raised, limit, with_limits, with_limit, is_good, refuse_child, child_of, refuse_setting, set_limit}
+use Rattle.node.specs.declared.Handed.{Handed}
+use Rattle.node.specs.Node.{Given, Limited, limited_answer, address_in, fresh, with_counts, count, raised, limit, with_limits, with_limit, is_good, refuse_child, child_of, refuse_setting, set_limit}
 use Rattle.node.specs.Refusals.{IsGood, IsBad, ChildRefusals, SettingRefusals}
 use Rattle.node.specs.WrongRules.{past_limit, limitless, lifts_limits, one_limit, one_early, limit_last, limit_first}
 use Rattle.node.specs.WrongRules.{sets_nothing, sets_below, sets_above, sets_cut, sets_both, sets_other, mends_record}
@@ -153,14 +154,17 @@ pub record LimitCode : Type 0 where
   pub node_limit_asks : (n : Node) (kind : Kind) → limit-reads.Asked tt (n, (kind, tt))
   pub node_limit : (n : Node) (kind : Kind) (r : ℕ) → limit-reads.Learnt tt (n, (kind, tt)) r (n, (kind, tt)) → r ≡ limit kind n
   pub node_set_limit_asks : (n : Node) (kind : Kind) (k : ℕ) → set-limit-reads.Asked tt (n, (kind, (k, tt)))
-  pub node_set_limit : (n : Node) (kind : Kind) (k : ℕ) (r : Limited) → set-limit-reads.Learnt tt (n, (kind, (k, tt))) r (n, (kind, (k, tt)))
-      → r ≡ set_limit n kind k
+  pub node_set_limit : (n : Node) (kind : Kind) (k : ℕ) (r : Handed (Unit {0})) → set-limit-reads.Learnt tt (n, (kind, (k, tt))) r (n, (kind, (k, tt)))
+      → limited_answer r ≡ set_limit n kind k
   pub pasa_limit_routers_asks : (n : PasaNode) (k : ℕ) → limit-routers-reads.Asked tt (n, (k, tt))
   pub pasa_limit_routers : (n : PasaNode) (k : ℕ) (r : PasaLimited) → limit-routers-reads.Learnt tt (n, (k, tt)) r (n, (k, tt))
       → r ≡ pasa_limited (set_limit (node_of n) Router k)
   pub pasa_limit_hosts_asks : (n : PasaNode) (k : ℕ) → limit-hosts-reads.Asked tt (n, (k, tt))
   pub pasa_limit_hosts : (n : PasaNode) (k : ℕ) (r : PasaLimited) → limit-hosts-reads.Learnt tt (n, (k, tt)) r (n, (k, tt))
       → r ≡ pasa_limited (set_limit (node_of n) Host k)
+  pub limit_set : (n : Node) → limited_answer (record { node = n; outcome = Ok tt }) ≡ record { node = n; refusal = 0 }
+  pub limit_not_set : (n : Node) (x : Refusal) → limited_answer (record { node = n; outcome = Err x }) ≡ record { node = n; refusal = number_of x }
+  pub one_setting_answer : (r s : Handed (Unit {0})) → limited_answer r ≡ limited_answer s → r ≡ s
   pub limited : (l : Limited) → pasa_limited l ≡ record { node = pasa_node l.node; refusal = l.refusal }
 
 -- rules for a child that are wrong about limits; each is defined in crates/node/specs/WrongRules.antt

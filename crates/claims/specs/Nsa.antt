@@ -2,16 +2,16 @@
 -- demand 1 and demand 2 for the three together; values on the boundaries; what the code promises; and the wrong writers and readers. What is said with
 -- other entries is not said again: which numbers are addresses (Addresses), what an order says (Demand1), which lists are octets, `wrote` (Demand2). The `length` of an
 -- answer is the payload's, as C has it; that of a list is how many octets it has.
-use Rattle.std.specs.Prelude.{ℕ, ◌+◌, ◌-◌, ◌*◌, ◌^◌, ◌≤◌, ◌<◌, ◌≡◌, ◌⊎◌, ◌↔◌, List, [], ◌∷◌, ◌++◌, length, take, drop, get_or}
+use Rattle.std.specs.Prelude.{ℕ, ◌+◌, ◌-◌, ◌*◌, ◌^◌, ◌≤◌, ◌<◌, ◌≡◌, ◌⊎◌, ◌↔◌, List, [], ◌∷◌, ◌++◌, length, take, drop, get_or, Result, Ok, Err}
+use Rattle.refusal.specs.declared.Refusal.{Refusal}
+use Rattle.refusal.specs.Refusal.{number_of}
 use contract.Lifetimes.{Lfts}
 use Rattle.address.specs.Order.{Order, done, ◌when◌otherwise◌, ◌then◌, GivenExactly}
 use Rattle.address.specs.Numbers.{IsAddress}
 use Rattle.address.specs.declared.Address.{Address}
-use Rattle.octets.specs.declared.Written.{Written}
-use Rattle.octets.specs.Octets.{AreOctets, octets, value, WriteEffect, wrote}
+use Rattle.octets.specs.Octets.{Written, written_answer, AreOctets, octets, value, WriteEffect, wrote}
 use Rattle.nsa.specs.declared.Fields.{Fields}
-use Rattle.nsa.specs.declared.Reading.{Reading}
-use Rattle.nsa.specs.declared.Reading.TheVariants.{Found, Refused}
+use Rattle.nsa.specs.declared.Row.{Row}
 use Rattle.nsa.specs.Fields.{length_field, address_field, fields, writing, FieldsAnswer, found, refused_fields, fields_answer, reading}
 use Rattle.nsa.specs.Forms.{LengthForm, AddressForm}
 use Rattle.nsa.specs.RoundTrip.{FieldsWriter, FieldsReader, FieldsRoundTrip}
@@ -24,7 +24,7 @@ use Rattle.pasa.specs.Bytes.{pasa_written}
 use Rattle.pasa.specs.Fields.{pasa_nsa}
 use Rattle.nsa.proofs.write.Reads as write-reads
 use Rattle.nsa.proofs.read.Reads as read-reads
-use Rattle.pasa.proofs.bytes.pasa_written.Reads as written-reads
+use Rattle.pasa.proofs.bytes.PasaWrittenFromResultUsizeRefusal.from.Reads as written-reads
 use Rattle.pasa.proofs.fields.pasa_nsa_write.Reads as nsa-write-reads
 use Rattle.pasa.proofs.fields.pasa_nsa_read.Reads as nsa-read-reads
 use Rattle.claims.specs.Code.{Slice, SliceMut}
@@ -256,16 +256,16 @@ pub record ValuesOfSeven : Type 0 where
 pub record OlderCode : Type 0 where
   -- the document's number and values for each case of the answer, which leave one answer
   pub three_found : (f : Fields) (k : ℕ)
-      → fields_answer (Found f k) ≡ record { refusal = 0; length = f.length; source = f.source.number; destination = f.destination.number; place = k }
-  pub not_found : (n : ℕ) → fields_answer (Refused n) ≡ record { refusal = n; length = 0; source = 0; destination = 0; place = 0 }
-  pub one_answer : (p : List ℕ) (r s : Reading) → fields_answer r ≡ reading p → fields_answer s ≡ reading p → r ≡ s
+      → fields_answer (Ok (record { fields = f; place = k })) ≡ record { refusal = 0; length = f.length; source = f.source.number; destination = f.destination.number; place = k }
+  pub not_found : (x : Refusal) → fields_answer (Err x) ≡ record { refusal = number_of x; length = 0; source = 0; destination = 0; place = 0 }
+  pub one_answer : (p : List ℕ) (r s : Result Row Refusal) → fields_answer r ≡ reading p → fields_answer s ≡ reading p → r ≡ s
   pub nsa_write_asks : (κs : Lfts 1) (l : ℕ) (s d : Address) (out : SliceMut) → write-reads.Asked κs (l, (s, (d, (out, tt))))
-  pub nsa_write : (κs : Lfts 1) (l : ℕ) (s d : Address) (out out' : SliceMut) (r : Written)
+  pub nsa_write : (κs : Lfts 1) (l : ℕ) (s d : Address) (out out' : SliceMut) (r : Result ℕ Refusal)
       → write-reads.Learnt κs (l, (s, (d, (out, tt)))) r (l, (s, (d, (out', tt))))
-      → (◌≡◌ {A = WriteEffect} record { answer = r; buffer = out'.now } (writing l s.number d.number out.now))
+      → (◌≡◌ {A = WriteEffect} record { answer = written_answer r; buffer = out'.now } (writing l s.number d.number out.now))
       × (s.number < 2 ^ 64) × (d.number < 2 ^ 64)
   pub nsa_read_asks : (κs : Lfts 1) (p : Slice) → read-reads.Asked κs (p, tt)
-  pub nsa_read : (κs : Lfts 1) (p : Slice) (r : Reading) → read-reads.Learnt κs (p, tt) r (p, tt)
+  pub nsa_read : (κs : Lfts 1) (p : Slice) (r : Result Row Refusal) → read-reads.Learnt κs (p, tt) r (p, tt)
       → (fields_answer r ≡ reading p.now) × AreOctets p.now
   pub pasa_nsa_write_asks : (κs : Lfts 1) (l s d : ℕ) (out : SliceMut) → nsa-write-reads.Asked κs (l, (s, (d, (out, tt))))
   pub pasa_nsa_write : (κs : Lfts 1) (l s d : ℕ) (out out' : SliceMut) (r : PasaWritten)
@@ -274,8 +274,8 @@ pub record OlderCode : Type 0 where
   pub pasa_nsa_read_asks : (κs : Lfts 1) (p : Slice) → nsa-read-reads.Asked κs (p, tt)
   pub pasa_nsa_read : (κs : Lfts 1) (p : Slice) (r : PasaNsa) → nsa-read-reads.Learnt κs (p, tt) r (p, tt)
       → (r ≡ pasa_nsa (reading p.now)) × AreOctets p.now
-  pub pasa_written_asks : (w : Written) → written-reads.Asked tt (w, tt)
-  pub pasa_written_to : (w : Written) (r : PasaWritten) → written-reads.Learnt tt (w, tt) r (w, tt) → r ≡ pasa_written w
+  pub pasa_written_asks : (w : Result ℕ Refusal) → written-reads.Asked tt (w, tt)
+  pub pasa_written_to : (w : Result ℕ Refusal) (r : PasaWritten) → written-reads.Learnt tt (w, tt) r (w, tt) → r ≡ pasa_written (written_answer w)
   pub written_struct : (w : Written) → pasa_written w ≡ record { count = w.count; refusal = w.refusal }
   pub nsa_struct : (r : FieldsAnswer)
       → pasa_nsa r ≡ record { length = r.length; source = r.source; destination = r.destination; place = r.place; refusal = r.refusal }

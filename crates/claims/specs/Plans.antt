@@ -5,7 +5,7 @@ use mathlib.Core.List.{List, [], ◌∷◌, ◌++◌, map, Memᴰ}
 use Rattle.address.specs.declared.Kind.TheVariants.{Router, Host}
 use Rattle.node.specs.Node.{address_in, fresh, child_of, set_limit}
 use Rattle.node.specs.declared.Node.{Node}
-use Rattle.node.specs.declared.Given.{Given}
+use Rattle.node.specs.Node.{Given}
 use Rattle.packet.specs.Packet.{packet_hop}
 use Rattle.tree.specs.Tree.{request, asking, bare_root, replied, grow, grown, addresses, AllDiffer}
 use Rattle.tree.specs.Demand3.{Demand3}
