@@ -66,7 +66,8 @@ fn among(number: u64, list: &[u64]) -> bool
         .fold(false, |found, each| found | (*each == number))
 }
 
-// The nodes known, at the front of some lent words.
+// The nodes known, at the front of some lent words. That a method leaves the words the same ones (`same`) each says for itself: who lends them on needs
+// it of each call.
 #[derive(Drop)]
 struct Known<'a> {
     words: &'a mut [u64],
@@ -326,7 +327,7 @@ pub fn write(journal: &mut [u8], addresses: &[u64]) -> Result<usize, Refusal>
     Ok(slot)
 }
 
-// Children counted by their kind.
+// Children counted by their kind, up to 255: no limits, which node's struct of these fields is.
 #[derive(Clone, Copy)]
 struct Counts {
     routers: u8,
@@ -352,7 +353,7 @@ fn count_word(counts: Counts, node: Address, word: Address) -> Counts
     }
 }
 
-// The record that a node goes on with after a recovery, from the words that it left, where the address is among them.
+// One pass counts and looks: over all the words, twice would take twice as long. The record that a node goes on with after a recovery, from the words that it left, where the address is among them.
 pub fn record_in(words: &[u64], address: Address) -> Option<Node>
     ensures { record_answer result ≡ record_in words.now address.number }
 {

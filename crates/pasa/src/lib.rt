@@ -3,7 +3,8 @@
 //
 // Each promise cites the definition of the function below it (`child_of`, `set_limit`, `next_hop`, `packet_hop`, `writing`, `reading`, `listing`,
 // `planning`, `recovering`), through the definitions of specs/ that turn a record or an answer into the struct exported. An address is a plain
-// 64-bit number here, and zero in its place is refused as the crates below refuse it.
+// 64-bit number here, and zero in its place is refused as the crates below refuse it. An answer is turned into its struct by `From`; several structs have one shape, and a
+// number for the refusal: each is C's, by include/pasa.h.
 #![tactic(auto)]
 
 ghost use Rattle.std.specs.Prelude.{◌≡◌};
