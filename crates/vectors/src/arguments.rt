@@ -1,5 +1,5 @@
 // Reading the arguments of a case.
-ghost use Rattle.std.specs.Prelude.{◌<◌, IfSome};
+ghost use Rattle.std.specs.Prelude.{◌<◌, ◌≤◌, IfSome, IfOk, vec_len};
 
 use address::Address;
 use node::{Limits, Node};
@@ -93,7 +93,9 @@ impl<'a> Arguments<'a> {
     }
 
     // The octets that the pairs of hexadecimal digits that come next say. Only the first of a pair is judged.
-    pub(crate) fn octets(&mut self, alloc: Global) -> Result<Vec<u8>, AllocError> {
+    pub(crate) fn octets(&mut self, alloc: Global) -> Result<Vec<u8>, AllocError>
+        ensures { IfOk result (λ v. vec_len v ≤ 512) }
+    {
         self.pass();
         let (pairs, _) = self.rest.as_chunks::<2>();
         let octets: Vec<u8> = pairs

@@ -1,4 +1,6 @@
 // The commands, each by the function that carries its promise.
+ghost use Rattle.std.specs.Prelude.{◌≡◌, ◌≤◌, IfOk, min, vec_len};
+
 use crate::answer::{Digits, Found, Record, Refused, Told, Way};
 use crate::arguments::{Arguments, cut};
 use address::{Address, Kind};
@@ -72,7 +74,11 @@ fn counted(name: &[u8]) -> &[u8] {
 }
 
 // As many octets or words as are asked for, and at most as many as there are.
-fn lent<T: Copy>(alloc: Global, value: T, room: u64, most: u64) -> Result<Vec<T>, AllocError> {
+fn lent<T: Copy>(alloc: Global, value: T, room: u64, most: u64) -> Result<Vec<T>, AllocError>
+    requires { most ≤ 8200 }
+    ensures asked { IfOk result (λ v. vec_len v ≡ min room most) }
+    ensures few { IfOk result (λ v. vec_len v ≤ 8200) }
+{
     vec![in alloc; value; room.min(most) as usize]
 }
 
