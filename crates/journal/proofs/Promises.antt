@@ -10,13 +10,14 @@ use Prim.Native.Nat.{ℕ}
 use contract.Lifetimes.{Lfts}
 use Rattle.std.specs.Borrow.{Bor, MutBor}
 use Rattle.address.specs.declared.Address.{Address}
-use Rattle.std.specs.Prelude.{Result, Option, Some, None, Bool}
+use Rattle.std.specs.Prelude.{Result, Option, Some, None, Bool, IfSome}
 use Rattle.refusal.specs.declared.Refusal.{Refusal}
 use Rattle.node.specs.declared.Node.{Node}
 use Rattle.journal.specs.declared.Progress.{Progress as ProgressOfCode}
 use Rattle.refusal.specs.Outcome.{outcome_number}
-use Rattle.journal.specs.Recovery.{Recovered, recovered_answer, unfit, recovering}
-use Rattle.journal.specs.Reader.{Progress, fault_answer, progress_answer, step, finished}
+use Rattle.journal.specs.Recovery.{Recovered, recovered_by, recovered_answer, unfit, recovering}
+use Rattle.journal.specs.Reader.{Progress, progress_by, fault_answer, progress_answer, step, finished}
+use Rattle.journal.specs.AnyFault.{AnyFault}
 use Rattle.journal.specs.Writing.{Placed, placed_answer, writing}
 use Rattle.journal.specs.Record.{Record, record_answer, record_in}
 use Rattle.journal.proofs.recover.Reads as recover-reads
@@ -57,7 +58,7 @@ unfit_promise bytes words r h = h
 pub unfit-asks-nothing : (bytes words : ℕ) → unfit-reads.Asked tt (bytes, (words, tt))
 unfit-asks-nothing bytes words = tt
 
-pub take-slot_promise : (κs : Lfts 2) (journal : Bor (List ℕ)) (slot : ℕ) (words last : MutBor (List ℕ)) (written nodes : ℕ) (r : ProgressOfCode)
+pub take-slot_promise : (κs : Lfts 2) (journal : Bor (List ℕ)) (slot : ℕ) (words last : MutBor (List ℕ)) (written nodes : ℕ) (r : ProgressOfCode Refusal)
     → take-slot-reads.Learnt κs (journal, (slot, (words, (written, (nodes, tt))))) r (journal, (slot, (last, (written, (nodes, tt)))))
     → (progress_answer r ≡ (step journal.now slot written nodes words.now).progress) × (last.now ≡ (step journal.now slot written nodes words.now).words)
 take-slot_promise κs journal slot words last written nodes r h = h
@@ -66,13 +67,16 @@ pub take-slot-asks-nothing : (κs : Lfts 2) (journal : Bor (List ℕ)) (slot : �
     → take-slot-reads.Asked κs (journal, (slot, (words, (written, (nodes, tt)))))
 take-slot-asks-nothing κs journal slot words written nodes = tt
 
-pub finish_promise : (κs : Lfts 1) (end : ProgressOfCode) (words last : MutBor (List ℕ)) (r : Result ℕ Refusal)
-    → finish-reads.Learnt κs (end, (words, tt)) r (end, (last, tt))
-    → (recovered_answer r ≡ (finished (progress_answer end) words.now).answer) × (last.now ≡ (finished (progress_answer end) words.now).words)
-finish_promise κs end words last r h = h
+module _ (F : AnyFault) (end : ProgressOfCode F.type_of.Denot) (words : MutBor (List ℕ)) where
+  pub finish_promise : (κs : Lfts 2) (last : MutBor (List ℕ)) (r : Result ℕ F.type_of.Denot)
+      → finish-reads.Learnt F.type_of F.laws F.copied F.cloned F.dict κs (end, (words, tt)) r (end, (last, tt))
+      → (number : F.type_of.Denot → ℕ) → IfSome end.refusal (λ x. number x ≡ 0 → ⊥)
+      → (recovered_by number r ≡ (finished (progress_by number end) words.now).answer) × (last.now ≡ (finished (progress_by number end) words.now).words)
+  finish_promise κs last r h = h
 
-pub finish-asks-nothing : (κs : Lfts 1) (end : ProgressOfCode) (words : MutBor (List ℕ)) → finish-reads.Asked κs (end, (words, tt))
-finish-asks-nothing κs end words = tt
+  -- what the type borrows, if anything, lives as long as it does
+  pub finish-asks-nothing : (κ : List ℕ) → finish-reads.Asked F.type_of F.laws F.copied F.cloned F.dict (κ, (F.type_of.lives, tt)) (end, (words, tt))
+  finish-asks-nothing κ = λ a h. h
 
 -- the numbers leave one answer
 
@@ -94,10 +98,10 @@ one-fault (Some x) (Some y) e = ap Some (one x y e)
 one-fault None (Some y) e = absurd (some y (sym e))
 one-fault (Some x) None e = absurd (some x e)
 
-progress : ℕ → ℕ → ℕ → Option Refusal → Bool → ProgressOfCode
+progress : ℕ → ℕ → ℕ → Option Refusal → Bool → ProgressOfCode Refusal
 progress slot written nodes refusal done = record { slot = slot; written = written; nodes = nodes; refusal = refusal; done = done }
 
-pub one-progress : (r s : ProgressOfCode) → progress_answer r ≡ progress_answer s → r ≡ s
+pub one-progress : (r s : ProgressOfCode Refusal) → progress_answer r ≡ progress_answer s → r ≡ s
 unfolding progress
 one-progress r s e =
     ap (λ (k : ℕ). progress k r.written r.nodes r.refusal r.done) (ap (λ (p : Progress). p.slot) e)

@@ -1,5 +1,5 @@
 -- Recovery, exit by exit. Assumes nothing.
-use Rattle.std.specs.Prelude.{if◌then◌else◌}
+use Rattle.std.specs.Prelude.{if◌then◌else◌, Option, Some, None, IfSome}
 use Prim.Native.Nat.{ℕ, zero, suc, min, ◌*◌, ◌-◌, ◌/◌, ◌%◌, ◌≤◌, ◌<◌}
 use mathlib.Core.Path.{◌≡◌, refl, sym, ap, ap₂, ◌∙◌}
 use mathlib.Core.Bool.{Bool, true, false, not, ◌&&◌}
@@ -11,6 +11,9 @@ use borrow.Rule.Slice.PartMut.{put_mid}
 use lib.ListN.{length, take, drop, replicate, length-take, length-drop, drop_of_length-le}
 use lib.Seq.{length-take-le}
 use Rattle.std.proofs.lemmas.List.{take_min}
+use Rattle.refusal.specs.declared.Refusal.{Refusal}
+use Rattle.refusal.specs.Refusal.{number_of}
+use Rattle.refusal.proofs.Numbers.{some}
 use Rattle.block.specs.Block.{slot_bytes}
 use Rattle.journal.specs.Limits.{most_slots, most_nodes}
 use Rattle.journal.specs.Replay.{Replay}
@@ -124,3 +127,8 @@ module _ (journal words : List ℕ) where
       let (right, room) = unfit-none (length journal) (length words) fit in
       let some = is_length-some (length journal) right in
       recovering-finished right room _ (record { progress = at; words = ws }) (ends_so journal words room some at ws e)
+
+-- a fault that is a refusal has a number, not 0
+pub fault-numbered : (o : Option Refusal) → IfSome o (λ r. number_of r ≡ 0 → ⊥)
+fault-numbered None = tt
+fault-numbered (Some r) = some r

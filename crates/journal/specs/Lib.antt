@@ -7,3 +7,4 @@ pub mod Recovery
 pub mod Follows
 pub mod Writing
 pub mod Reader
+pub mod AnyFault

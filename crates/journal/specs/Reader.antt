@@ -22,14 +22,21 @@ pub record Progress : Type 0 where
   pub refusal : ℕ
   pub done : Bool
 
--- the papers' number of a fault, 0 where there is none
-abbrev pub fault_answer : Option Refusal → ℕ
-fault_answer None = 0
-fault_answer (Some r) = number_of r
+-- the number of a fault, whatever says which it is, 0 where there is none
+abbrev pub fault_by : {R : Type 0} → (R → ℕ) → Option R → ℕ
+fault_by number None = 0
+fault_by number (Some r) = number r
 
--- how far the code says that a journal is taken
-abbrev pub progress_answer : ProgressOfCode → Progress
-progress_answer p = record { slot = p.slot; written = p.written; nodes = p.nodes; refusal = fault_answer p.refusal; done = p.done }
+-- how far the code says that a journal is taken, by these numbers
+abbrev pub progress_by : {R : Type 0} → (R → ℕ) → ProgressOfCode R → Progress
+progress_by number p = record { slot = p.slot; written = p.written; nodes = p.nodes; refusal = fault_by number p.refusal; done = p.done }
+
+-- the same by the papers' numbers
+abbrev pub fault_answer : Option Refusal → ℕ
+fault_answer = fault_by number_of
+
+abbrev pub progress_answer : ProgressOfCode Refusal → Progress
+progress_answer = progress_by number_of
 
 -- the numbers, and the words beside them
 pub record State : Type 0 where

@@ -14,10 +14,14 @@ pub record Recovered : Type 0 where
   pub refusal : ℕ
   pub nodes : ℕ
 
--- the papers' numbers for each case of the answer
+-- the numbers for each case of the answer, whatever says why it is refused
+abbrev pub recovered_by : {R : Type 0} → (R → ℕ) → Result ℕ R → Recovered
+recovered_by number (Ok n) = record { refusal = 0; nodes = n }
+recovered_by number (Err r) = record { refusal = number r; nodes = 0 }
+
+-- the same by the papers' numbers
 abbrev pub recovered_answer : Result ℕ Refusal → Recovered
-recovered_answer (Ok n) = record { refusal = 0; nodes = n }
-recovered_answer (Err r) = record { refusal = number_of r; nodes = 0 }
+recovered_answer = recovered_by number_of
 
 -- the same, where so many nodes are known in the end
 abbrev pub known_answer : Result (Unit {0}) Refusal → ℕ → Recovered

@@ -2,7 +2,7 @@
 // and the writer answer.
 #![tactic(auto)]
 
-ghost use Rattle.std.specs.Prelude.{ℕ, List, ◌≡◌, true, false, ◌∷◌, [], ◌≤◌, ◌<◌, ◌+◌, ◌-◌, min, length, take};
+ghost use Rattle.std.specs.Prelude.{ℕ, List, ◌≡◌, true, false, ◌∷◌, [], ◌≤◌, ◌<◌, ◌+◌, ◌-◌, min, length, take, IfSome};
 ghost use Rattle.std.specs.Iterator.{IsFinite, AlwaysYields};
 ghost use Rattle.address.specs.declared.Kind.TheVariants.{Router, Host};
 ghost use Rattle.refusal.specs.Outcome.{outcome_number};
@@ -11,9 +11,9 @@ ghost use Rattle.journal.specs.Limits.{most_nodes};
 ghost use Rattle.journal.specs.Replay.{among, before, is_next, taken, follow, known};
 ghost use Rattle.journal.specs.Record.{children, most_counted, record_in, record_answer};
 ghost use Rattle.journal.specs.Slots.{slot_count, not_erased};
-ghost use Rattle.journal.specs.Recovery.{is_length, unfit, recovered_answer, known_answer, recovering};
+ghost use Rattle.journal.specs.Recovery.{is_length, unfit, recovered_by, recovered_answer, known_answer, recovering};
 ghost use Rattle.journal.specs.Follows.{Follows};
-ghost use Rattle.journal.specs.Reader.{progress_answer, step, run, begin, finished};
+ghost use Rattle.journal.specs.Reader.{progress_by, progress_answer, step, run, begin, finished};
 ghost use Rattle.journal.specs.Writing.{placed_answer, judging, writing};
 
 use address::Address;
@@ -29,13 +29,14 @@ pub const MOST_NODES: usize = 4096;
 const ERASED: u8 = 0xFF;
 
 // How far a journal is taken: the next slot; how many slots are not erased; the nodes known, at the front of the words; the first fault; and
-// whether nothing is left to take. What is finished is the same whether or not something is left, so this stands beside the fault.
+// whether nothing is left to take. What is finished is the same whether or not something is left, so this stands beside the fault; and whatever says
+// which fault it is, a refusal or its number.
 #[derive(Clone, Copy, Debug, PartialEq, Eq)]
-pub struct Progress {
+pub struct Progress<R> {
     pub slot: usize,
     pub written: usize,
     pub nodes: usize,
-    pub refusal: Option<Refusal>,
+    pub refusal: Option<R>,
     pub done: bool,
 }
 
@@ -149,7 +150,7 @@ impl<'a> Known<'a> {
 }
 
 // Nothing is taken.
-fn stopped(slot: usize, written: usize, nodes: usize) -> Progress
+fn stopped(slot: usize, written: usize, nodes: usize) -> Progress<Refusal>
     ensures { progress_answer result ≡ record { slot = slot; written = written; nodes = nodes; refusal = 0; done = true } }
 {
     Progress {
@@ -170,7 +171,7 @@ pub fn take_slot(
     words: &mut [u64],
     written: usize,
     nodes: usize,
-) -> Progress
+) -> Progress<Refusal>
     ensures { (progress_answer result ≡ (step journal.now slot written nodes words.old).progress) × (words.new ≡ (step journal.now slot written nodes words.old).words) }
 {
     let slots = journal.len() / block::SLOT;
@@ -222,7 +223,7 @@ pub fn take_slot(
 }
 
 // Takes the slots in order, from a bare root, with a place counter.
-fn replay(journal: &[u8], words: &mut [u64]) -> Progress
+fn replay(journal: &[u8], words: &mut [u64]) -> Progress<Refusal>
     requires { (0 < slot_count journal.now) × (most_nodes ≤ length words.old) }
     ensures { (progress_answer result ≡ (run (slot_count journal.now) journal.now (begin words.old)).progress) × (words.new ≡ (run (slot_count journal.now) journal.now (begin words.old)).words) }
 {
@@ -262,9 +263,10 @@ pub fn unfit(bytes: usize, words: usize) -> Result<(), Refusal>
     Ok(())
 }
 
-// What recovery answers where no slot is left to take, the number of the nodes: zeros stand behind them. A fault has left all of the words zeros.
-pub fn finish(end: Progress, words: &mut [u64]) -> Result<usize, Refusal>
-    ensures { (recovered_answer result ≡ (finished (progress_answer end) words.old).answer) × (words.new ≡ (finished (progress_answer end) words.old).words) }
+// What recovery answers where no slot is left to take, the number of the nodes: zeros stand behind them. A fault has left all of the words zeros. It is
+// handed on as it came, whatever numbers faults have but 0.
+pub fn finish<R: Copy>(end: Progress<R>, words: &mut [u64]) -> Result<usize, R>
+    ensures { (number : R → ℕ) → IfSome end.refusal (λ r. number r ≡ 0 → ⊥) → (recovered_by number result ≡ (finished (progress_by number end) words.old).answer) × (words.new ≡ (finished (progress_by number end) words.old).words) }
 {
     if let Some(refusal) = end.refusal {
         return Err(refusal);

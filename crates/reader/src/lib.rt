@@ -24,7 +24,7 @@ pub struct Reader<'a> {
 #[derive(Clone, Copy, Debug, PartialEq, Eq)]
 pub struct Taken<'a> {
     pub reader: Reader<'a>,
-    pub progress: Progress,
+    pub progress: Progress<Refusal>,
 }
 
 impl<'a> Reader<'a> {
@@ -60,7 +60,7 @@ impl<'a> Reader<'a> {
 
 // Takes the slots in order by a reader, from the first one on, asked until it is done: a way of its own beside `journal::replay`, of which SameAnswers
 // says that it comes to the same.
-fn replay(journal: &[u8], words: &mut [u64]) -> Progress
+fn replay(journal: &[u8], words: &mut [u64]) -> Progress<Refusal>
     requires { (0 < slot_count journal.now) × (most_nodes ≤ length words.old) }
     ensures { (progress_answer result ≡ (run (slot_count journal.now) journal.now (from words.old)).progress) × (words.new ≡ (run (slot_count journal.now) journal.now (from words.old)).words) }
 {

@@ -7,7 +7,7 @@ use Rattle.refusal.specs.Refusal.{number_of}
 use Rattle.refusal.proofs.Numbers.{numbered}
 use Rattle.journal.specs.Recovery.{RecoverEffect, recovered_answer, unfit, refuse_recovery}
 use Rattle.journal.specs.Reader.{progress_answer}
-use Rattle.journal.proofs.RecoverLaws.{is_length-some, unfit-none, recovery_says, recovering-unfit, recovering-run}
+use Rattle.journal.proofs.RecoverLaws.{is_length-some, unfit-none, recovery_says, recovering-unfit, recovering-run, fault-numbered}
 use Rattle.journal.proofs.recover.Goals as goal
 
 pub returns-in_err-unfit : goal.returns-in_err-unfit
@@ -30,7 +30,7 @@ pub returns : goal.returns
 returns c =
     let at = c.args in
     let replayed = c.replay-end in
-    let finished = c.finish.ensures in
+    let finished = c.finish.ensures number_of (fault-numbered replayed.result.refusal) in
     let e =
     recovering-run at.journal.now at.words.now (sym c.in_ok-unfit.ensures) (progress_answer replayed.result) replayed.new.words replayed.ensures in
     (finished.0 ∙ ap (λ (x : RecoverEffect). x.answer) (sym e), finished.1 ∙ ap (λ (x : RecoverEffect). x.words) (sym e))
