@@ -1,6 +1,6 @@
 -- A number looked for word by word: what is found so far, and what stands from a place on. Assumes nothing.
 use Prim.Native.Nat.{ℕ, suc, ◌≤◌, ◌<◌}
-use mathlib.Core.Path.{◌≡◌, sym, ap, ◌∙◌}
+use mathlib.Core.Path.{◌≡◌, refl, sym, ap, ◌∙◌}
 use mathlib.Core.Bool.{Bool, ◌||◌, or_assoc, or-false}
 use mathlib.Core.List.{List, [], ◌∷◌, ◌++◌}
 use lib.Dec.{eqb}
@@ -24,3 +24,9 @@ pub among_snoc : (a : ℕ) (xs : List ℕ) (x : ℕ) → among a (xs ++ (x ∷ [
 unfolding among
 among_snoc a [] x = or-false (eqb x a)
 among_snoc a (y ∷ xs) x = ap (λ (b : Bool). eqb y a || b) (among_snoc a xs x) ∙ sym (or_assoc (eqb y a) (among a xs) (eqb x a))
+
+-- a number stands in two lists behind each other if it stands in either
+pub among_append : (a : ℕ) (xs ys : List ℕ) → among a (xs ++ ys) ≡ (among a xs || among a ys)
+unfolding among
+among_append a [] ys = refl
+among_append a (x ∷ xs) ys = ap (λ (b : Bool). eqb x a || b) (among_append a xs ys) ∙ sym (or_assoc (eqb x a) (among a xs) (among a ys))

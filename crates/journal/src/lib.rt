@@ -25,6 +25,9 @@ pub const MOST_SLOTS: usize = 128;
 
 pub const MOST_NODES: usize = 4096;
 
+// How many words are looked through before it is asked whether a number was among them.
+const AT_ONCE: usize = 64;
+
 // "erased to 0xFF"
 const ERASED: u8 = 0xFF;
 
@@ -58,13 +61,24 @@ fn before(address: u64) -> u64
     half - 1
 }
 
-// Whether a number stands in a list. All of it is looked through, since that takes less time than to stop where it stands: most of recovery's time goes here
-// and in the check.
-fn among(number: u64, list: &[u64]) -> bool
+// Whether a number stands in a list. All of it is looked through, since over a few words that takes less time than to stop where it stands.
+fn among_all(number: u64, list: &[u64]) -> bool
     ensures { result ≡ among number list.now }
 {
     list.iter()
         .fold(false, |found, each| found | (*each == number))
+}
+
+// Whether a number stands in a list, some words at a time up to those among which it does: most of recovery's time goes here and in the check.
+fn among(number: u64, list: &[u64]) -> bool
+    ensures { result ≡ among number list.now }
+{
+    for part in list.chunks(AT_ONCE) {
+        if among_all(number, part) {
+            return true;
+        }
+    }
+    false
 }
 
 // The nodes known, at the front of some lent words. That a method leaves the words the same ones (`same`) each says for itself: who lends them on needs

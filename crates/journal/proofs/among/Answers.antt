@@ -1,18 +1,28 @@
--- `journal::among` meets its contract: what is found is what stands among those looked at.
-use Rattle.std.proofs.Common.{◌≡◌, ◌||◌, false, eqb, refl, sym, ap, ◌∙◌, rules, tests}
-use Rattle.std.proofs.lemmas.Fn.{fold_over, fronts}
-use Rattle.std.proofs.lemmas.Iterator.{YieldsList-from_slice}
+-- `journal::among` meets its contract: a part at a time, the number stands in the first of those left or behind it.
+use Rattle.std.proofs.Common.{◌≡◌, ◌||◌, Bool, true, false, sym, ap, ◌∙◌, rules}
+use Rattle.std.proofs.lemmas.List.{nil_from_length}
+use Rattle.std.specs.Slice.Iter.{chunks_rest}
 use Rattle.journal.specs.Replay.{among}
-use Rattle.journal.proofs.AmongLaws.{among_snoc}
+use Rattle.journal.proofs.AmongLaws.{among_append}
 use Rattle.journal.proofs.among.Goals as goal
+
+pub returns-then-among_all : goal.returns-then-among_all
+returns-then-among_all c =
+    let a = c.args.number in
+    let behind = among a (chunks_rest c.next.new.self) in
+    let found : among a c.in-Some.part.now ≡ true = sym c.among_all.ensures ∙ c.if-among_all.true in
+    sym (sym c.loop-part.invariant.3 ∙ ap (among a) c.in-Some.ensures.steps.1.0 ∙ among_append a _ _ ∙ ap (λ (b : Bool). b || behind) found)
+
+pub loop-part-preserved : goal.loop-part-preserved
+loop-part-preserved c =
+    let a = c.args.number in
+    let behind = among a (chunks_rest c.next.new.self) in
+    let not_found : among a c.in-Some.part.now ≡ false = sym c.among_all.ensures ∙ c.if-among_all.false in
+    let rest = ap (among a) c.in-Some.ensures.steps.1.0 ∙ among_append a _ _ ∙ ap (λ (b : Bool). b || behind) not_found in
+    (search rules, tt, c.in-Some.ensures.steps.0 ∙ c.loop-part.invariant.2, sym rest ∙ c.loop-part.invariant.3)
 
 pub returns : goal.returns
 unfolding among
 returns c =
-    let a = c.args.number in
-    let list = c.args.list.now in
-    fold_over fronts (λ y. y.now) _ (λ ys found. found ≡ among a ys) _
-    (λ ys found x b f j k.
-    let one : b ≡ (found || eqb x.now a) = search (rules, tests) in
-    (one ∙ ap (λ found. found || eqb x.now a) j ∙ sym (among_snoc a ys x.now), search (rules, tests)))
-    c.iter.result list false c.fold.result (YieldsList-from_slice list cc).runs refl c.fold.ensures.ran
+    let none = nil_from_length _ c.in-None.ensures.steps.1.0 in
+    sym (ap (among c.args.number) none) ∙ c.loop-part.invariant.3
