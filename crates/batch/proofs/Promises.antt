@@ -10,9 +10,10 @@ use Rattle.std.specs.Prelude.{Result}
 use Rattle.refusal.specs.declared.Refusal.{Refusal}
 use Rattle.forward.specs.declared.Hop.{Hop}
 use Rattle.forward.specs.Forward.{hop_answer}
-use Rattle.batch.specs.Exported.{PasaHop, pasa_hop}
+use Rattle.batch.specs.Exported.{PasaHop, pasa_hop, numbered_answer}
 use Rattle.batch.specs.Batch.{BatchEffect, next_hops}
 use Rattle.batch.proofs.PasaHopFromResultHopRefusal.from.Reads as pasa-hop-reads
+use Rattle.batch.proofs.pasa_hop.Reads as numbered-reads
 use Rattle.batch.proofs.next_hops.Reads as next-hops-reads
 
 -- a lent slice, to read and to write
@@ -27,6 +28,13 @@ pasa_hop_promise h r e = e
 
 pub pasa_hop-asks-nothing : (h : Result Hop Refusal) → pasa-hop-reads.Asked tt (h, tt)
 pasa_hop-asks-nothing h = tt
+
+-- the same of an answer whose refusal is any number
+pub numbered_promise : (h : Result Hop ℕ) (r : PasaHop) → numbered-reads.Learnt tt (h, tt) r (h, tt) → r ≡ pasa_hop (numbered_answer h)
+numbered_promise h r e = e
+
+pub numbered-asks-nothing : (h : Result Hop ℕ) → numbered-reads.Asked tt (h, tt)
+numbered-asks-nothing h = tt
 
 module _ (κs : Lfts 4) (n : Node) (ds : Slice) (nodes actions refusals : SliceMut) where
   pub next-hops_promise : (nodes' actions' refusals' : SliceMut) (r : ℕ)

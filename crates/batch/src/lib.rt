@@ -3,7 +3,7 @@
 
 ghost use Rattle.std.specs.Prelude.{◌≡◌};
 ghost use Rattle.forward.specs.Forward.{hop_answer};
-ghost use Rattle.batch.specs.Exported.{pasa_hop};
+ghost use Rattle.batch.specs.Exported.{pasa_hop, numbered_answer};
 ghost use Rattle.batch.specs.Batch.{next_hops};
 
 use address::Address;
@@ -30,21 +30,32 @@ pub struct PasaHop {
     pub action: u8,
 }
 
+// An answer as the struct, whatever number its refusal has.
+#[tactic(auto, unfolding(forward::specs::Forward::hop_answer, crate::specs::Exported::pasa_hop, crate::specs::Exported::action_number))]
+pub fn pasa_hop(answer: Result<Hop, u8>) -> PasaHop
+    ensures { result ≡ pasa_hop (numbered_answer answer) }
+{
+    let (node, refusal, action) = match answer {
+        Ok(Hop::Deliver(node)) => (node.number, 0, Action::Delivered),
+        Ok(Hop::Parent(node)) => (node.number, 0, Action::ToParent),
+        Ok(Hop::Child(node)) => (node.number, 0, Action::ToChild),
+        Err(number) => (0, number, Action::Stopped),
+    };
+    PasaHop {
+        node,
+        refusal,
+        action: action as u8,
+    }
+}
+
 impl From<Result<Hop, Refusal>> for PasaHop {
     ghost from_gives = { λ answer result. result ≡ pasa_hop (hop_answer answer) };
 
-    #[tactic(auto, unfolding(forward::specs::Forward::hop_answer, crate::specs::Exported::pasa_hop, crate::specs::Exported::action_number))]
+    #[tactic(auto, unfolding(forward::specs::Forward::hop_answer))]
     fn from(answer: Result<Hop, Refusal>) -> PasaHop {
-        let (node, refusal, action) = match answer {
-            Ok(Hop::Deliver(node)) => (node.number, 0, Action::Delivered),
-            Ok(Hop::Parent(node)) => (node.number, 0, Action::ToParent),
-            Ok(Hop::Child(node)) => (node.number, 0, Action::ToChild),
-            Err(refusal) => (0, refusal.number(), Action::Stopped),
-        };
-        PasaHop {
-            node,
-            refusal,
-            action: action as u8,
+        match answer {
+            Ok(hop) => pasa_hop(Ok(hop)),
+            Err(refusal) => pasa_hop(Err(refusal.number())),
         }
     }
 }

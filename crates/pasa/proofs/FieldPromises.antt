@@ -8,13 +8,14 @@ use Rattle.std.specs.Borrow.{Bor, MutBor}
 use Rattle.octets.specs.Octets.{AreOctets}
 use Rattle.std.specs.Prelude.{Result}
 use Rattle.refusal.specs.declared.Refusal.{Refusal}
-use Rattle.octets.specs.Octets.{written_answer}
+use Rattle.octets.specs.Octets.{Written, written_answer}
 use Rattle.nsa.specs.Fields.{writing, reading}
 use Rattle.pasa.specs.declared.bytes.PasaWritten.{PasaWritten}
 use Rattle.pasa.specs.declared.fields.PasaNsa.{PasaNsa}
 use Rattle.pasa.specs.Bytes.{pasa_written}
 use Rattle.pasa.specs.Fields.{pasa_nsa}
 use Rattle.pasa.proofs.bytes.PasaWrittenFromResultUsizeRefusal.from.Reads as written-reads
+use Rattle.pasa.proofs.bytes.pasa_written.Reads as written-numbers-reads
 use Rattle.pasa.proofs.fields.pasa_nsa_write.Reads as nsa-write-reads
 use Rattle.pasa.proofs.fields.pasa_nsa_read.Reads as nsa-read-reads
 
@@ -47,3 +48,11 @@ written-asks-nothing w = tt
 
 pub written_promise : (w : Result ℕ Refusal) (r : PasaWritten) → written-reads.Learnt tt (w, tt) r (w, tt) → r ≡ pasa_written (written_answer w)
 written_promise w r h = h
+
+-- the struct of any number and any count
+pub written-numbers-asks-nothing : (number count : ℕ) → written-numbers-reads.Asked tt (number, (count, tt))
+written-numbers-asks-nothing number count = tt
+
+pub written-numbers_promise : (number count : ℕ) (r : PasaWritten) → written-numbers-reads.Learnt tt (number, (count, tt)) r (number, (count, tt))
+    → r ≡ pasa_written (record { refusal = number; count = count })
+written-numbers_promise number count r h = h

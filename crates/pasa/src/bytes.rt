@@ -36,15 +36,19 @@ pub struct PasaAddress {
     pub refusal: u8,
 }
 
+// The struct of a refusal's number and a count, whatever they are.
+#[tactic(auto, unfolding(crate::specs::Bytes::pasa_written))]
+pub fn pasa_written(refusal: u8, count: usize) -> PasaWritten
+    ensures { result ≡ pasa_written (record { refusal = refusal; count = count }) }
+{
+    PasaWritten { count, refusal }
+}
+
 impl From<Result<usize, Refusal>> for PasaWritten {
     ghost from_gives = { λ written result. result ≡ pasa_written (written_answer written) };
 
-    #[tactic(auto, unfolding(crate::specs::Bytes::pasa_written))]
     fn from(written: Result<usize, Refusal>) -> PasaWritten {
-        PasaWritten {
-            count: written.unwrap_or(0),
-            refusal: number(&written),
-        }
+        pasa_written(number(&written), written.unwrap_or(0))
     }
 }
 
