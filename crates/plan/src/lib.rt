@@ -1,8 +1,8 @@
 // A hall's plan, read into lent words: specs/Grammar.antt has the text, specs/Hall.antt the addresses, specs/Plan.antt the refusals.
 #![tactic(auto)]
 
-ghost use Rattle.std.specs.Prelude.{◌≡◌, ◌∷◌, [], ◌+◌, ◌<◌, ◌≤◌, ◌^◌, length, drop, set, get_or, IfOk, IfErr, Err};
-ghost use Rattle.plan.specs.Grammar.{closing};
+ghost use Rattle.std.specs.Prelude.{ℕ, ◌≡◌, ◌∷◌, [], ◌+◌, ◌<◌, ◌≤◌, ◌^◌, length, drop, set, get_or, IfOk, IfErr, Err};
+ghost use Rattle.plan.specs.Grammar.{closing, letter_h};
 ghost use Rattle.plan.specs.Reading.{inside, fault_at, reading};
 ghost use Rattle.plan.specs.Plan.{missing, planned_answer, planning};
 ghost use Rattle.plan.specs.declared.PlanRefusal.TheVariants.{Grammar};
@@ -118,10 +118,29 @@ fn address_of(given: Handed<Address>) -> Address
     given.outcome.unwrap_or(Address::of(0))
 }
 
+// Reads the hosts that come next, all that stand in a row: in a loop of their own, since a hall has more hosts than routers, and nothing but the count
+// of hosts changes from one to the next.
+fn hosts(text: &[u8], from: Progress, owner: Node, words: &mut [u64]) -> AfterItem
+    requires { (from.place ≤ length text.now) × (from.nodes ≤ from.place) × (from.missing ≤ from.nodes) }
+    ensures read { (allowed : ℕ) → PartRead text.now words.old words.new from result.progress allowed (λ up. inside (owner ∷ up)) (λ up. inside (result.node ∷ up)) }
+    ensures all { get_or text.now result.progress.place 0 ≡ letter_h → ⊥ }
+{
+    let mut at = from;
+    let mut node = owner;
+    while let Some(&b'H') = text.get(at.place) {
+        let given = node.child(Kind::Host);
+        let host = address_of(given);
+        put(at.nodes, host.number, words);
+        at = at.named(at.place + 1, host);
+        node = given.node;
+    }
+    AfterItem { progress: at, node }
+}
+
 // "A group holds items and an item may hold a group": these two call each other, and with each group that an item opens there is one fewer that
 // may be open. What they share goes from hand to hand: a struct of the text and the lent words would be lent anew at each call.
 
-// Reads an item of a group, with as many more groups allowed to be open.
+// Reads an item of a group, or all the hosts that stand in a row, with as many more groups allowed to be open.
 #[cycle(group_item)]
 fn item(
     text: &[u8],
@@ -136,13 +155,7 @@ fn item(
 {
     let place = from.place;
     if text[place] == b'H' {
-        let given = node.child(Kind::Host);
-        let host = address_of(given);
-        put(from.nodes, host.number, words);
-        return Ok(AfterItem {
-            progress: from.named(place + 1, host),
-            node: given.node,
-        });
+        return Ok(hosts(text, from, node, words));
     }
     if allowed == 0 {
         return Err(Fault { place });

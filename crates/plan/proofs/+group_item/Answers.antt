@@ -1,5 +1,5 @@
 -- `plan::group` and `plan::item`, which call each other, meet their contracts: each goal is one law of Parts or ItemLaws.
-use Rattle.std.proofs.Common.{arith, ◌≡◌, [], ◌∷◌, get_or, drop, length-drop, ap}
+use Rattle.std.proofs.Common.{arith, ◌≡◌, ℕ, [], ◌∷◌, get_or, drop, length-drop, sym, ap, ◌∙◌}
 use Rattle.std.proofs.lemmas.Result.{err_from_is_err_and}
 use Rattle.node.specs.Node.{given_answer}
 use Rattle.plan.specs.Grammar.{closing}
@@ -7,7 +7,7 @@ use Rattle.plan.specs.Progress.{Progress}
 use Rattle.plan.proofs.Openings.{matched-le}
 use Rattle.plan.proofs.Missing.{missing-le}
 use Rattle.plan.proofs.Parts.{part_none, part_then, part_stops}
-use Rattle.plan.proofs.ItemLaws.{item-host, item-full, item_unopened, item-router, item-router-stops, group_closed, group_unclosed}
+use Rattle.plan.proofs.ItemLaws.{item-full, item_unopened, item-router, item-router-stops, group_closed, group_unclosed}
 use Rattle.plan.proofs.+group_item.Goals as goal
 
 -- ---- the group
@@ -41,13 +41,13 @@ group-returns-clause-fault t c =
 
 -- ---- the item
 
--- a host
+-- hosts, of which the first stands at the place, and none behind the last
 pub item-returns-then-text-place-eq72-clause-read : goal.item-returns-then-text-place-eq72-clause-read
-item-returns-then-text-place-eq72-clause-read t c = (
-  item-host c.requires.0 (given_answer c.child-given.result) c.if-text-place-eq72.true c.child-given.ensures c.address_of-host.ensures
-      c.put.ensures c.named.ensures,
-  omega (arith, ap (λ (x : Progress). x.place) c.named.ensures),
-)
+item-returns-then-text-place-eq72-clause-read t c =
+    let part = c.hosts.ensures.read c.args.allowed in
+    let moved : c.args.from.place ≡ c.hosts.result.progress.place → ⊥ = λ e.
+    c.hosts.ensures.all (ap (λ (k : ℕ). get_or c.args.text.now k 0) (sym e) ∙ c.if-text-place-eq72.true) in
+    (part, omega (arith, part.forth, moved))
 
 -- no group more is allowed
 pub item-returns-then-allowed-eq0-clause-fault : goal.item-returns-then-allowed-eq0-clause-fault
@@ -84,16 +84,16 @@ pub item-returns-in_err-progress-clause-fault : goal.item-returns-in_err-progres
 item-returns-in_err-progress-clause-fault t c =
     let both = c.in_ok-open.ensures.both in
     let p = err_from_is_err_and c.from_residual-in_err-progress.result c.from_residual-in_err-progress.ensures.1 in rw (p.1, p.2)
-    (item-router-stops c.args.text.now c.args.words.now c.put-2.new.words c.args.from c.named-inner.result c.args.node c.requires.0 c.requires.1
-    c.if-text-place-eq72.false c.in_ok-open.open both.0 both.1 (given_answer c.child-given-2.result) c.child-given-2.ensures c.address_of-router.ensures c.put-2.ensures
+    (item-router-stops c.args.text.now c.args.words.now c.put.new.words c.args.from c.named-inner.result c.args.node c.requires.0 c.requires.1
+    c.if-text-place-eq72.false c.in_ok-open.open both.0 both.1 (given_answer c.child-given.result) c.child-given.ensures c.address_of-router.ensures c.put.ensures
     c.named-inner.ensures c.fresh.ensures (omega (arith, c.if-allowed-eq0.false)) c.in_err-progress.ensures.fault)
 
 pub item-returns-clause-read : goal.item-returns-clause-read
 item-returns-clause-read t c =
     let both = c.in_ok-open.ensures.both in
     let part = c.in_ok-progress.ensures.read in (
-      item-router c.args.text.now c.args.words.now c.put-2.new.words c.args.from c.named-inner.result c.args.node c.requires.0 c.requires.1
-          c.if-text-place-eq72.false c.in_ok-open.open both.0 both.1 (given_answer c.child-given-2.result) c.child-given-2.ensures c.address_of-router.ensures c.put-2.ensures
+      item-router c.args.text.now c.args.words.now c.put.new.words c.args.from c.named-inner.result c.args.node c.requires.0 c.requires.1
+          c.if-text-place-eq72.false c.in_ok-open.open both.0 both.1 (given_answer c.child-given.result) c.child-given.ensures c.address_of-router.ensures c.put.ensures
           c.named-inner.ensures c.fresh.ensures (omega (arith, c.if-allowed-eq0.false)) part,
       omega (arith, part.forth, ap (λ (x : Progress). x.place) c.named-inner.ensures, both.0),
     )
