@@ -8,7 +8,7 @@ use Rattle.crc.proofs.Promises.{crc_promise, crc-asks-nothing}
 use Rattle.block.proofs.Promises.{all_are_promise, all_are-asks-nothing, is_block_promise, is_block-asks-nothing, put_promise, put-asks-nothing}
 use Rattle.journal.specs.Recovery.{unfit, refuse_recovery}
 use Rattle.journal.specs.Reader.{begin}
-use Rattle.journal.proofs.RecoverLaws.{finished-known, finished-fault}
+use Rattle.journal.proofs.RecoverLaws.{finished-known, finished-fault, fault-numbered}
 use Rattle.journal.proofs.Promises.{one-recovered, one-placed, one-found, one-progress, unfit_promise, unfit-asks-nothing, take-slot_promise}
 use Rattle.journal.proofs.Promises.{take-slot-asks-nothing, finish_promise, finish-asks-nothing}
 use Rattle.reader.specs.SameAnswers.{asked, asked_all, by_reader}
@@ -34,7 +34,7 @@ journal-asks-nothing = record {
   journal_record = record_in_asks-nothing;
   journal_unfit = unfit-asks-nothing;
   journal_take_slot = take-slot-asks-nothing;
-  journal_finish = finish-asks-nothing;
+  journal_finish = λ F κ end words. finish-asks-nothing F end words κ;
   reader_recover = reader-recover-asks-nothing;
   pasa_node_to = node-asks-nothing;
   pasa_journal_write = journal-write-asks-nothing;
@@ -54,9 +54,12 @@ journal-answers_as_defined = record {
   journal_write = λ κs journal xs journal' r h. h;
   journal_record = record_in_promise;
   journal_refuse = λ x. refl;
+  journal_refuse_by_number = λ k. refl;
   journal_unfit = unfit_promise;
   journal_take_slot = take-slot_promise;
-  journal_finish = finish_promise;
+  journal_finish = λ F κs end words words' r h. finish_promise F end words κs words' r h;
+  papers_numbers = λ r. refl;
+  papers_progress = λ p. (refl, fault-numbered p.refusal);
   reader_recover = λ κs journal words words' r h. h;
   pasa_node_to = node_promise;
   pasa_journal_write = journal-write_promise;

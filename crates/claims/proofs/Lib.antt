@@ -7,3 +7,4 @@ mod LimitLines
 mod LargerLines
 mod NsaLines
 mod EmptyLines
+mod ConversionLines

@@ -74,7 +74,7 @@ use Rattle.route.proofs.Length.{at_most_126}
 use Rattle.route.proofs.Listing.{up_and_down_lem}
 use Rattle.batch.specs.Exported.{action_number, pasa_hop}
 use Rattle.batch.proofs.Words.{batches}
-use Rattle.batch.proofs.Promises.{pasa_hop_promise, pasa_hop-asks-nothing, next-hops_promise as batch-next-hops-promise, next-hops-asks-nothing as batch-next-hops-asks-nothing}
+use Rattle.batch.proofs.Promises.{pasa_hop_promise, pasa_hop-asks-nothing, numbered_promise, numbered-asks-nothing, next-hops_promise as batch-next-hops-promise, next-hops-asks-nothing as batch-next-hops-asks-nothing}
 use Rattle.pasa.specs.Children.{node_of, pasa_node, pasa_child}
 use Rattle.pasa.specs.Bytes.{pasa_written, pasa_read, pasa_address}
 use Rattle.pasa.specs.Paths.{pasa_listed}
@@ -648,6 +648,7 @@ asks_nothing = record {
   line_answer = answer-asks-nothing;
   plan_read = plan-read-asks-nothing;
   batch_hop = pasa_hop-asks-nothing;
+  batch_numbered = numbered-asks-nothing;
   batch_next_hops = batch-next-hops-asks-nothing;
   pasa_node_of = pasa-node-of-asks-nothing;
 }
@@ -680,6 +681,7 @@ answers_as_defined = record {
   line_answer = λ κs input out out' r h. h;
   plan_read = λ κs text words words' r h. h;
   batch_hop = pasa_hop_promise;
+  batch_numbered = numbered_promise;
   batch_next_hops = batch-next-hops-promise;
   pasa_node_of = pasa-node-of-promise;
 }
@@ -770,6 +772,8 @@ cases = record {
   passes_up = λ a. refl;
   passes_down = λ a. refl;
   stops = λ x. refl;
+  stops_by_number = λ k. refl;
+  goes_by_number = λ h. refl;
 }
 
 pub one_answer : OneAnswer

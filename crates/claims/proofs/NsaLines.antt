@@ -27,7 +27,7 @@ use Rattle.pasa.specs.declared.bytes.PasaWritten.{PasaWritten}
 use Rattle.pasa.specs.declared.fields.PasaNsa.{PasaNsa}
 use Rattle.pasa.specs.Bytes.{pasa_written}
 use Rattle.pasa.specs.Fields.{pasa_nsa}
-use Rattle.pasa.proofs.FieldPromises.{nsa_write-asks-nothing, nsa_write_promise, nsa_read-asks-nothing, nsa_read_promise, written-asks-nothing, written_promise}
+use Rattle.pasa.proofs.FieldPromises.{nsa_write-asks-nothing, nsa_write_promise, nsa_read-asks-nothing, nsa_read_promise, written-asks-nothing, written_promise, written-numbers-asks-nothing, written-numbers_promise}
 use Rattle.claims.specs.Nsa.{OlderFields, ShortestForms, OlderRefusals, ThreeForms, OlderReadsBack, ValuesOfSeven, OlderCode, OlderInCode, OlderOfAny, WrongOlder}
 
 pub older_fields : OlderFields
@@ -223,6 +223,8 @@ older_code = record {
   pasa_nsa_read = nsa_read_promise;
   pasa_written_asks = written-asks-nothing;
   pasa_written_to = written_promise;
+  pasa_written_numbers_asks = written-numbers-asks-nothing;
+  pasa_written_numbers = written-numbers_promise;
   written_struct = λ w. refl;
   nsa_struct = λ r. refl;
 }

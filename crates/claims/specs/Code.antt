@@ -26,7 +26,7 @@ use Rattle.plan.specs.declared.PlanRefusal.{PlanRefusal}
 use Rattle.plan.specs.Plan.{planned_answer, planning}
 use Rattle.line.specs.Line.{answering}
 use Rattle.batch.specs.declared.PasaHop.{PasaHop}
-use Rattle.batch.specs.Exported.{pasa_hop}
+use Rattle.batch.specs.Exported.{pasa_hop, numbered_answer}
 use Rattle.batch.specs.Batch.{BatchEffect, next_hops}
 use Rattle.pasa.specs.declared.children.PasaNode.{PasaNode}
 use Rattle.pasa.specs.Children.{node_of}
@@ -44,6 +44,7 @@ use Rattle.search.proofs.first_bits.Reads as first-bits-reads
 use Rattle.node.proofs.Node.count.Reads as count-reads
 use Rattle.node.proofs.Node.is_good.Reads as is-good-reads
 use Rattle.batch.proofs.PasaHopFromResultHopRefusal.from.Reads as pasa-hop-reads
+use Rattle.batch.proofs.pasa_hop.Reads as numbered-reads
 use Rattle.batch.proofs.next_hops.Reads as next-hops-reads
 use Rattle.pasa.proofs.children.NodeFromPasaNode.from.Reads as node-of-reads
 use Rattle.node.proofs.Node.fresh.Reads as fresh-reads
@@ -94,6 +95,7 @@ pub record AsksNothing : Type 0 where
   pub line_answer : (κs : Lfts 2) (input : Slice) (out : SliceMut) → line_reads.Asked κs (input, (out, tt))
   pub plan_read : (κs : Lfts 2) (text : Slice) (words : SliceMut) → plan-reads.Asked κs (text, (words, tt))
   pub batch_hop : (h : Result Hop Refusal) → pasa-hop-reads.Asked tt (h, tt)
+  pub batch_numbered : (h : Result Hop ℕ) → numbered-reads.Asked tt (h, tt)
   pub batch_next_hops : (κs : Lfts 4) (n : Node) (ds : Slice) (nodes actions refusals : SliceMut)
       → next-hops-reads.Asked κs (n, (ds, (nodes, (actions, (refusals, tt)))))
   pub pasa_node_of : (n : PasaNode) → node-of-reads.Asked tt (n, tt)
@@ -138,6 +140,8 @@ pub record AnswersAsDefined : Type 0 where
   pub plan_read : (κs : Lfts 2) (text : Slice) (words words' : SliceMut) (r : Result ℕ PlanRefusal) → plan-reads.Learnt κs (text, (words, tt)) r (text, (words', tt))
       → (planned_answer r ≡ (planning text.now words.now).answer) × (words'.now ≡ (planning text.now words.now).words)
   pub batch_hop : (h : Result Hop Refusal) (r : PasaHop) → pasa-hop-reads.Learnt tt (h, tt) r (h, tt) → r ≡ pasa_hop (hop_answer h)
+  -- whatever number the refusal has
+  pub batch_numbered : (h : Result Hop ℕ) (r : PasaHop) → numbered-reads.Learnt tt (h, tt) r (h, tt) → r ≡ pasa_hop (numbered_answer h)
   pub batch_next_hops : (κs : Lfts 4) (n : Node) (ds : Slice) (nodes actions refusals nodes' actions' refusals' : SliceMut) (r : ℕ)
       → next-hops-reads.Learnt κs (n, (ds, (nodes, (actions, (refusals, tt))))) r (n, (ds, (nodes', (actions', (refusals', tt)))))
       → ◌≡◌ {A = BatchEffect} record { count = r; nodes = nodes'.now; actions = actions'.now; refusals = refusals'.now }

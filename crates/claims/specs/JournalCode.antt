@@ -1,6 +1,6 @@
 -- What the code of request Four promises is what the page Journals speaks of, each function by its own contract, and none asks anything; then the
 -- exported structs and the exports.
-use Rattle.std.specs.Prelude.{ℕ, suc, ◌-◌, ◌/◌, ◌≡◌, Bool, true, false, ◌↔◌, List, ◌++◌, length, take, replicate, set, Option, Some, None, Result, Ok, Err}
+use Rattle.std.specs.Prelude.{ℕ, suc, ◌-◌, ◌/◌, ◌≡◌, Bool, true, false, ◌↔◌, List, ◌++◌, length, take, replicate, set, Option, Some, None, IfSome, Result, Ok, Err}
 use Rattle.refusal.specs.declared.Refusal.{Refusal}
 use Rattle.refusal.specs.Refusal.{number_of}
 use Rattle.refusal.specs.Outcome.{outcome_number}
@@ -18,8 +18,9 @@ use Rattle.node.specs.Node.{fresh, with_counts}
 use Rattle.node.specs.declared.Node.{Node}
 use Rattle.crc.specs.Crc.{crc}
 use Rattle.block.specs.Block.{block_put, all_are, is_block}
-use Rattle.journal.specs.Recovery.{Recovered, recovered_answer, unfit, recovering}
-use Rattle.journal.specs.Reader.{Progress, progress_answer, step, finished}
+use Rattle.journal.specs.Recovery.{Recovered, recovered_by, recovered_answer, unfit, recovering}
+use Rattle.journal.specs.Reader.{Progress, progress_by, progress_answer, step, finished}
+use Rattle.journal.specs.AnyFault.{AnyFault}
 use Rattle.journal.specs.Writing.{Placed, placed_answer, writing}
 use Rattle.journal.specs.Record.{Record, record_answer, record_in}
 use Rattle.journal.specs.declared.Progress.{Progress as ProgressOfCode}
@@ -62,7 +63,7 @@ Slice = Bor (List ℕ)
 abbrev pub SliceMut : Type 0
 SliceMut = MutBor (List ℕ)
 
-pub record JournalAsksNothing : Type 0 where
+pub record JournalAsksNothing : Type 2 where
   pub node_with_counts : (n : Node) (routers hosts : ℕ) → with-counts-reads.Asked tt (n, (routers, (hosts, tt)))
   pub crc_of : (κs : Lfts 1) (os : Slice) → crc-reads.Asked κs (os, tt)
   pub block_all_are : (κs : Lfts 1) (byte : ℕ) (bytes : Slice) → all-are-reads.Asked κs (byte, (bytes, tt))
@@ -74,7 +75,9 @@ pub record JournalAsksNothing : Type 0 where
   pub journal_unfit : (bytes words : ℕ) → unfit-reads.Asked tt (bytes, (words, tt))
   pub journal_take_slot : (κs : Lfts 2) (journal : Slice) (slot : ℕ) (words : SliceMut) (written nodes : ℕ)
       → take-slot-reads.Asked κs (journal, (slot, (words, (written, (nodes, tt)))))
-  pub journal_finish : (κs : Lfts 1) (end : ProgressOfCode) (words : SliceMut) → finish-reads.Asked κs (end, (words, tt))
+  -- whatever says which fault it is: what that borrows, if anything, lives as long as it does
+  pub journal_finish : (F : AnyFault) (κ : List ℕ) (end : ProgressOfCode F.type_of.Denot) (words : SliceMut)
+      → finish-reads.Asked F.type_of F.laws F.copied F.cloned F.dict (κ, (F.type_of.lives, tt)) (end, (words, tt))
   pub reader_recover : (κs : Lfts 2) (journal : Slice) (words : SliceMut) → reader-recover-reads.Asked κs (journal, (words, tt))
   pub pasa_node_to : (n : Node) → pasa-node-reads.Asked tt (n, tt)
   pub pasa_journal_write : (κs : Lfts 2) (journal : SliceMut) (xs : Slice) → pasa-write-reads.Asked κs (journal, (xs, tt))
@@ -82,7 +85,7 @@ pub record JournalAsksNothing : Type 0 where
   pub pasa_journal_record : (κs : Lfts 1) (words : Slice) (a : ℕ) → pasa-record-reads.Asked κs (words, (a, tt))
   pub pasa_crc : (κs : Lfts 1) (os : Slice) → pasa-crc-reads.Asked κs (os, tt)
 
-pub record JournalAnswersAsDefined : Type 0 where
+pub record JournalAnswersAsDefined : Type 2 where
   pub node_with_counts : (n : Node) (routers hosts : ℕ) (r : Node) → with-counts-reads.Learnt tt (n, (routers, (hosts, tt))) r (n, (routers, (hosts, tt)))
       → r ≡ with_counts routers hosts n
   pub crc_of : (κs : Lfts 1) (os : Slice) (r : ℕ) → crc-reads.Learnt κs (os, tt) r (os, tt) → r ≡ crc os.now
@@ -101,14 +104,19 @@ pub record JournalAnswersAsDefined : Type 0 where
       → record-in-reads.Learnt κs (words, (a, tt)) r (words, (a, tt)) → record_answer r ≡ record_in words.now a.number
   -- the parts of recovery, which the reader shares
   pub journal_refuse : (x : Refusal) → recovered_answer (Err x) ≡ record { refusal = number_of x; nodes = 0 }
+  pub journal_refuse_by_number : (k : ℕ) → recovered_by (λ (n : ℕ). n) (Err k) ≡ record { refusal = k; nodes = 0 }
   pub journal_unfit : (bytes words : ℕ) (r : Result (Unit {0}) Refusal) → unfit-reads.Learnt tt (bytes, (words, tt)) r (bytes, (words, tt))
       → outcome_number r ≡ unfit bytes words
-  pub journal_take_slot : (κs : Lfts 2) (journal : Slice) (slot : ℕ) (words words' : SliceMut) (written nodes : ℕ) (r : ProgressOfCode)
+  pub journal_take_slot : (κs : Lfts 2) (journal : Slice) (slot : ℕ) (words words' : SliceMut) (written nodes : ℕ) (r : ProgressOfCode Refusal)
       → take-slot-reads.Learnt κs (journal, (slot, (words, (written, (nodes, tt))))) r (journal, (slot, (words', (written, (nodes, tt)))))
       → (progress_answer r ≡ (step journal.now slot written nodes words.now).progress) × (words'.now ≡ (step journal.now slot written nodes words.now).words)
-  pub journal_finish : (κs : Lfts 1) (end : ProgressOfCode) (words words' : SliceMut) (r : Result ℕ Refusal)
-      → finish-reads.Learnt κs (end, (words, tt)) r (end, (words', tt))
-      → (recovered_answer r ≡ (finished (progress_answer end) words.now).answer) × (words'.now ≡ (finished (progress_answer end) words.now).words)
+  -- whatever says which fault it is, and whatever numbers it has there but 0: a refusal and the papers' numbers, or an octet and its own
+  pub journal_finish : (F : AnyFault) (κs : Lfts 2) (end : ProgressOfCode F.type_of.Denot) (words words' : SliceMut) (r : Result ℕ F.type_of.Denot)
+      → finish-reads.Learnt F.type_of F.laws F.copied F.cloned F.dict κs (end, (words, tt)) r (end, (words', tt))
+      → (number : F.type_of.Denot → ℕ) → IfSome end.refusal (λ x. number x ≡ 0 → ⊥)
+      → (recovered_by number r ≡ (finished (progress_by number end) words.now).answer) × (words'.now ≡ (finished (progress_by number end) words.now).words)
+  pub papers_numbers : (r : Result ℕ Refusal) → recovered_by number_of r ≡ recovered_answer r
+  pub papers_progress : (p : ProgressOfCode Refusal) → (progress_by number_of p ≡ progress_answer p) × IfSome p.refusal (λ x. number_of x ≡ 0 → ⊥)
   -- recovery by a reader: the contract of recovery
   pub reader_recover : (κs : Lfts 2) (journal : Slice) (words words' : SliceMut) (r : Result ℕ Refusal)
       → reader-recover-reads.Learnt κs (journal, (words, tt)) r (journal, (words', tt))
@@ -196,7 +204,7 @@ pub record JournalFields : Type 0 where
   pub one_recovery_answer : (r s : Result ℕ Refusal) → recovered_answer r ≡ recovered_answer s → r ≡ s
   pub one_block_answer : (r s : Result ℕ Refusal) → placed_answer r ≡ placed_answer s → r ≡ s
   pub one_record_answer : (r s : Option Node) → record_answer r ≡ record_answer s → r ≡ s
-  pub one_progress : (r s : ProgressOfCode) → progress_answer r ≡ progress_answer s → r ≡ s
+  pub one_progress : (r s : ProgressOfCode Refusal) → progress_answer r ≡ progress_answer s → r ≡ s
   pub block : (p : Placed) → pasa_block p ≡ record { slot = p.slot; refusal = p.refusal }
   pub recovered : (r : Recovered) → pasa_recovered r ≡ record { nodes = r.nodes; refusal = r.refusal }
   pub its_record : (r : Record) → r.found ≡ true → pasa_record r ≡ record { node = pasa_node r.node; found = 1 }

@@ -22,6 +22,8 @@ pub mod Excluded
 pub mod Code
 -- the answers' cases and the exported structs, number by number
 pub mod Structs
+-- and what turns an answer into such a struct
+pub mod Conversions
 -- and what the functions promise that the archive exports
 pub mod Exports
 -- and what the code of request Four promises

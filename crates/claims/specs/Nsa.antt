@@ -25,6 +25,7 @@ use Rattle.pasa.specs.Fields.{pasa_nsa}
 use Rattle.nsa.proofs.write.Reads as write-reads
 use Rattle.nsa.proofs.read.Reads as read-reads
 use Rattle.pasa.proofs.bytes.PasaWrittenFromResultUsizeRefusal.from.Reads as written-reads
+use Rattle.pasa.proofs.bytes.pasa_written.Reads as written-numbers-reads
 use Rattle.pasa.proofs.fields.pasa_nsa_write.Reads as nsa-write-reads
 use Rattle.pasa.proofs.fields.pasa_nsa_read.Reads as nsa-read-reads
 use Rattle.claims.specs.Code.{Slice, SliceMut}
@@ -276,6 +277,10 @@ pub record OlderCode : Type 0 where
       → (r ≡ pasa_nsa (reading p.now)) × AreOctets p.now
   pub pasa_written_asks : (w : Result ℕ Refusal) → written-reads.Asked tt (w, tt)
   pub pasa_written_to : (w : Result ℕ Refusal) (r : PasaWritten) → written-reads.Learnt tt (w, tt) r (w, tt) → r ≡ pasa_written (written_answer w)
+  -- whatever the number and the count
+  pub pasa_written_numbers_asks : (number count : ℕ) → written-numbers-reads.Asked tt (number, (count, tt))
+  pub pasa_written_numbers : (number count : ℕ) (r : PasaWritten) → written-numbers-reads.Learnt tt (number, (count, tt)) r (number, (count, tt))
+      → r ≡ pasa_written (record { refusal = number; count = count })
   pub written_struct : (w : Written) → pasa_written w ≡ record { count = w.count; refusal = w.refusal }
   pub nsa_struct : (r : FieldsAnswer)
       → pasa_nsa r ≡ record { length = r.length; source = r.source; destination = r.destination; place = r.place; refusal = r.refusal }

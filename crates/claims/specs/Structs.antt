@@ -20,7 +20,7 @@ use Rattle.route.specs.Path.{Listed, listed_answer}
 use Rattle.plan.specs.declared.PlanRefusal.{PlanRefusal}
 use Rattle.plan.specs.declared.PlanRefusal.TheVariants.{Grammar, TooMany as PlanTooMany, TooLong as PlanTooLong, NoRoom as PlanNoRoom}
 use Rattle.plan.specs.Plan.{Planned, planned_answer}
-use Rattle.batch.specs.Exported.{action_number, pasa_hop}
+use Rattle.batch.specs.Exported.{action_number, pasa_hop, numbered_answer}
 use Rattle.pasa.specs.declared.children.PasaNode.{PasaNode}
 use Rattle.pasa.specs.Children.{node_of, pasa_node, pasa_child}
 use Rattle.pasa.specs.Bytes.{pasa_written, pasa_read, pasa_address}
@@ -64,6 +64,9 @@ pub record Cases : Type 0 where
   pub passes_up : (a : Address) → hop_answer (Ok (Parent a)) ≡ record { refusal = 0; action = to_parent; named = a.number }
   pub passes_down : (a : Address) → hop_answer (Ok (Child a)) ≡ record { refusal = 0; action = to_child; named = a.number }
   pub stops : (x : Refusal) → hop_answer (Err x) ≡ record { refusal = number_of x; action = stop; named = 0 }
+  -- whatever number the refusal has
+  pub stops_by_number : (k : ℕ) → numbered_answer (Err k) ≡ record { refusal = k; action = stop; named = 0 }
+  pub goes_by_number : (h : Hop) → numbered_answer (Ok h) ≡ hop_answer (Ok h)
 
 -- the numbers that are promised leave one answer
 pub record OneAnswer : Type 0 where
