@@ -23,3 +23,7 @@ unfolding octets
 octets_by_bytes zero n = refl
 octets_by_bytes (suc k) n =
     ap₂ (λ (x : ℕ) (l : List ℕ). x ∷ l) (byte_at_power k n) (octets_by_bytes k n) ∙ sym (octets-first k n)
+
+-- what is written of a number's bytes, whichever call gave them
+pub octets_of_bytes : {part bytes : List ℕ} (k n : ℕ) → part ≡ bytes → bytes ≡ bytes_high_first k n → part ≡ octets k n
+octets_of_bytes k n e f = e ∙ f ∙ octets_by_bytes k n

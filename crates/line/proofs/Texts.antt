@@ -1,15 +1,14 @@
 -- The texts that are written: an address less its last digit is half of it, and no line is longer than 65 octets. Assumes nothing.
-use mathlib.Core.Path.{◌≡◌, refl, sym, ap, ◌∙◌}
+use mathlib.Core.Path.{◌≡◌, refl, sym, ap, ap₂, ◌∙◌}
 use mathlib.Core.Logic.{◌⊎◌, inl, inr}
 use mathlib.Core.Bool.{Bool, true, false}
 use mathlib.Core.List.{List, [], ◌∷◌, ◌++◌, map, map-append}
 use Prim.Native.Nat.{ℕ, zero, suc, ◌+◌, ◌*◌, ◌/◌, ◌%◌, ◌^◌, ◌≤◌, ◌<◌}
 use native.Mathlib.Nat.{eq-zero-or-pos}
 use native.Mathlib.Omega.{arith}
-use borrow.Author.Tests.{lt-ltb, le-ltb}
+use borrow.Author.Tests.{ltb-true, ltb-false, lt-ltb, le-ltb}
 use lib.ListN.{length, length-append, length-map}
 use lib.Dec.{ltb}
-use Rattle.std.specs.Prelude.{if◌then◌else◌}
 use Rattle.address.specs.Bits.{Bit, O, I, last_bit, bits_in, bits, longest, digit as value}
 use Rattle.address.specs.Address.{bit_length}
 use Rattle.address.proofs.Numbers.{digit-last_bit, bits_snoc}
@@ -66,6 +65,9 @@ length-lines-le (a ∷ p) = omega (arith, length-line a p, length-address_text-l
 
 -- ---- a number in decimal digits
 
+two_digits : {tens ones x y : ℕ} → tens ≡ x → ones ≡ y → tens ∷ ones ∷ [] ≡ x ∷ y ∷ []
+two_digits e f = ap₂ (λ (m n : ℕ). m ∷ n ∷ []) e f
+
 module _ (n : ℕ) where
   pub decimal-one : n < 10 → decimal n ≡ (digit_zero + n) ∷ []
   unfolding decimal
@@ -73,25 +75,19 @@ module _ (n : ℕ) where
 
   pub decimal_two : 10 ≤ n → n < 100 → decimal n ≡ (digit_zero + n / 10) ∷ (digit_zero + n % 10) ∷ []
   unfolding decimal
-  decimal_two h l = rw (le-ltb n 10 h, lt-ltb n 100 l)
+  decimal_two h l = rw (le-ltb n 10 h, lt-ltb n 100 l) (two_digits (omega arith) (omega arith))
 
   pub decimal_three : 100 ≤ n → decimal n ≡ (digit_zero + n / 100) ∷ (digit_zero + n / 10 % 10) ∷ (digit_zero + n % 10) ∷ []
   unfolding decimal
   decimal_three h = rw (le-ltb n 10 (omega arith), le-ltb n 100 h)
 
   pub length-decimal-le : length (decimal n) ≤ 3
-  unfolding decimal
-  length-decimal-le = go (ltb n 10) (ltb n 100)
+  length-decimal-le = go (ltb n 10) refl (ltb n 100) refl
     where
-      go : (t u : Bool)
-          → length
-          (if t then (digit_zero + n) ∷ []
-          else if u then (digit_zero + n / 10) ∷ (digit_zero + n % 10) ∷ []
-          else (digit_zero + n / 100) ∷ (digit_zero + n / 10 % 10) ∷ (digit_zero + n % 10) ∷ [])
-          ≤ 3
-      go true u = omega arith
-      go false true = omega arith
-      go false false = omega arith
+      go : (t : Bool) → ltb n 10 ≡ t → (u : Bool) → ltb n 100 ≡ u → length (decimal n) ≤ 3
+      go true e u f = omega (arith, ap length (decimal-one (ltb-true n 10 e)))
+      go false e true f = omega (arith, ap length (decimal_two (ltb-false n 10 e) (ltb-true n 100 f)))
+      go false e false f = omega (arith, ap length (decimal_three (ltb-false n 100 f)))
 
   pub length_hops_line : length (hops_text ++ decimal n ++ (newline ∷ [])) ≡ length (decimal n) + 6
   unfolding hops_text

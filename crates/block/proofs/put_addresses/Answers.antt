@@ -1,10 +1,10 @@
 -- `block::put_addresses` meets its contract: before the place of address i stand the octets of those before it. Assumes nothing.
-use Rattle.std.proofs.Common.{◌≡◌, ◌+◌, ◌-◌, ◌*◌, length, take, drop, get_or, sym, ap, ◌∙◌, arith}
+use Rattle.std.proofs.Common.{◌≡◌, ◌+◌, ◌-◌, ◌*◌, length, take, drop, get_or, sym, ap, ◌∙◌, arith, rules}
 use Rattle.std.proofs.Math.Nat.{add-sub_cancel_left}
 use Rattle.octets.specs.Octets.{octets}
 use Rattle.block.specs.Block.{address_bytes, spread}
 use Rattle.block.proofs.Spread.{length-address, length-spread, part-spread}
-use Rattle.block.proofs.HighFirst.{octets_by_bytes}
+use Rattle.block.proofs.HighFirst.{octets_of_bytes}
 use Rattle.block.proofs.Filling.{filled_part, length_filled_part, filled_all}
 use Rattle.block.proofs.put_addresses.Goals as goal
 
@@ -18,7 +18,7 @@ loop-i-preserved c =
     let end = at + address_bytes in
     let next : address_bytes * (loop.i + 1) ≡ end = omega arith in
     let eight : part ≡ octets address_bytes (get_or xs loop.i 0) =
-    c.copy_from_slice.ensures.after ∙ c.to_be_bytes.ensures ∙ octets_by_bytes address_bytes (get_or xs loop.i 0) in
+    octets_of_bytes address_bytes (get_or xs loop.i 0) c.copy_from_slice.ensures.after (search rules) in
     let long : length part ≡ address_bytes = ap length eight ∙ length-address (get_or xs loop.i 0) in
     let same : part ≡ take (end - at) (drop at (spread xs)) =
     rw (add-sub_cancel_left at address_bytes) (eight ∙ sym (part-spread xs loop.i below)) in (

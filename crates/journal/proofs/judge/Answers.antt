@@ -4,6 +4,7 @@ use mathlib.Core.Path.{◌≡◌, refl, sym, ap, ◌∙◌}
 use Rattle.std.proofs.Common.{rules, tests, Ok, Err}
 use Rattle.std.proofs.lemmas.Iterator.{YieldsList-from_slice}
 use Rattle.std.proofs.lemmas.Iterator.Consumers.{YieldsList-at, YieldsList-from_copied}
+use Rattle.std.proofs.Math.Seq.{take-length}
 use native.Mathlib.Omega.{arith}
 use lib.ListN.{length, replicate, length-replicate}
 use Rattle.journal.specs.Limits.{most_nodes}
@@ -18,6 +19,9 @@ use Rattle.journal.proofs.EndLaws.{ends_so}
 use Rattle.journal.proofs.RecoverLaws.{is_length-some}
 use Rattle.journal.proofs.JudgeLaws.{judging-fault, judging-addresses, judging-full, judging-placed}
 use Rattle.journal.proofs.judge.Goals as goal
+
+-- a part that ends where all of it does
+ruleset wholes = (take-length)
 
 pub replay-end-requires : goal.replay-end-requires
 replay-end-requires c =
@@ -59,7 +63,7 @@ returns-in_err-follow c =
     let r = c.in_err-follow.field-0.0 in
     let same : c.from_residual.result ≡ Err r = search (rules, tests) in
     let whole : fault_answer replayed.result.refusal ≡ 0 = ap fault_answer c.in_default.is in
-    let road = YieldsList-from_copied (YieldsList-at c.copied.ensures.source (YieldsList-from_slice at.addresses.now cc)) in
+    let road = YieldsList-from_copied (YieldsList-at c.copied.ensures.source (YieldsList-from_slice at.addresses.now (search (rules, wholes)))) in
     ap placed_answer same
     ∙ sym (judging-addresses at.journal.now at.addresses.now right count (replicate most_nodes 0) _ end whole _ _ (known_answer (Err r) c.follow.new.self.nodes)
     (c.in_err-follow.ensures.follows at.addresses.now (runs road)) (numbered.some r))
@@ -74,7 +78,7 @@ returns-then-journal-end c =
     let end = ends_so at.journal.now (replicate most_nodes 0) (omega arith) some (progress_answer replayed.result) replayed.new.words replayed.ensures in
     let count = is_count_true (length at.addresses.now) (omega (arith, c.if-addresses-lt1.false), omega (arith, c.if-addresses-gt-MOST_ADDRESSES.false)) in
     let whole : fault_answer replayed.result.refusal ≡ 0 = ap fault_answer c.in_default.is in
-    let road = YieldsList-from_copied (YieldsList-at c.copied.ensures.source (YieldsList-from_slice at.addresses.now cc)) in
+    let road = YieldsList-from_copied (YieldsList-at c.copied.ensures.source (YieldsList-from_slice at.addresses.now (search (rules, wholes)))) in
     sym (judging-full at.journal.now at.addresses.now right count (replicate most_nodes 0) _ end whole _ _ (known_answer (Ok c.in_ok-follow.field-0) c.follow.new.self.nodes)
     (c.in_ok-follow.ensures.follows at.addresses.now (runs road)) refl (omega (arith, c.if-journal-end.true)))
 
@@ -87,6 +91,6 @@ returns c =
     let end = ends_so at.journal.now (replicate most_nodes 0) (omega arith) some (progress_answer replayed.result) replayed.new.words replayed.ensures in
     let count = is_count_true (length at.addresses.now) (omega (arith, c.if-addresses-lt1.false), omega (arith, c.if-addresses-gt-MOST_ADDRESSES.false)) in
     let whole : fault_answer replayed.result.refusal ≡ 0 = ap fault_answer c.in_default.is in
-    let road = YieldsList-from_copied (YieldsList-at c.copied.ensures.source (YieldsList-from_slice at.addresses.now cc)) in
+    let road = YieldsList-from_copied (YieldsList-at c.copied.ensures.source (YieldsList-from_slice at.addresses.now (search (rules, wholes)))) in
     sym (judging-placed at.journal.now at.addresses.now right count (replicate most_nodes 0) _ end whole _ _ (known_answer (Ok c.in_ok-follow.field-0) c.follow.new.self.nodes)
     (c.in_ok-follow.ensures.follows at.addresses.now (runs road)) refl (omega (arith, c.if-journal-end.false)))

@@ -1,6 +1,10 @@
 -- `journal::take_slot` meets its contract: each exit is one law of `step`.
 use Prim.Native.Nat.{ℕ, ◌+◌, ◌*◌, ◌-◌}
 use Rattle.std.proofs.Common.{rules, Ok, Err}
+use Rattle.std.proofs.Math.ListN.{drop_of_length-le}
+use Rattle.std.proofs.lemmas.List.{take_rest}
+use borrow.Rule.Slice.PartMut.{put_mid}
+use mathlib.Core.List.{List, ◌++◌, append-nil}
 use mathlib.Core.Path.{◌≡◌, refl, sym, ap, ◌∙◌}
 use native.Mathlib.Omega.{arith}
 use lib.ListN.{length, take, drop, replicate}
@@ -10,6 +14,21 @@ use Rattle.refusal.proofs.Numbers.{numbered}
 use Rattle.journal.specs.Recovery.{known_answer}
 use Rattle.journal.proofs.StepLaws.{step_says, step-erased, step-fault, step-known}
 use Rattle.journal.proofs.take_slot.Goals as goal
+
+-- words from the first on are all of them
+length-same : (ws vs : List ℕ) → ws ≡ vs → length ws ≡ length vs
+length-same ws vs e = ap length e
+
+length-part : (ws vs : List ℕ) → ws ≡ vs → length (take (length ws - 0) (drop 0 ws)) ≡ length vs
+length-part ws vs e = ap length (take_rest ws 0 ∙ e)
+
+put_whole : (ws part : List ℕ) → put_mid 0 (length ws - 0) ws part ≡ part
+put_whole ws part = ap (λ (l : List ℕ). part ++ l) (drop_of_length-le ws (omega arith)) ∙ append-nil part
+
+ruleset wholes = (put_whole)
+
+all_zeros : {new filled : List ℕ} {k n : ℕ} → filled ≡ replicate k 0 → k ≡ n → new ≡ filled → new ≡ replicate n 0
+all_zeros e f g = g ∙ e ∙ ap (λ (k : ℕ). replicate k 0) f
 
 pub returns-then-all_are : goal.returns-then-all_are
 unfolding is_erased
@@ -46,6 +65,5 @@ returns-in-Err c =
     (ap (λ (k : ℕ). take k (drop begin at.journal.now)) whole) (sym c.all_are.ensures ∙ c.if-all_are.false)
     c.in-Err.ensures.follows (numbered.some c.in-Err.refusal) in
     let says = step_says _ e in
-    let cleared : c.fill.new.self ≡ replicate (length at.words.now) 0 =
-    c.fill.ensures.after (search rules) ∙ ap (λ (k : ℕ). replicate k 0) (ap length (search rules) ∙ c.enter.ensures.follows.same) in
-    (says.0, cleared ∙ says.1)
+    let zeros = c.fill.ensures.after (search rules) in
+    (says.0, all_zeros zeros (search (rules, length-same, length-part) ∙ c.enter.ensures.follows.same) (search (rules, wholes)) ∙ says.1)

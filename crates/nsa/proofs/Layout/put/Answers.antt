@@ -1,5 +1,5 @@
 -- `nsa::Layout::put` meets its contract: the slice has the layout's length, so that what stands behind the marks has its own. Assumes nothing.
-use Rattle.std.proofs.Common.{◌≡◌, sym, ap, ◌∙◌, ℕ, ◌+◌, ◌-◌, List, ◌∷◌, length, arith, length-set}
+use Rattle.std.proofs.Common.{◌≡◌, sym, ap, ap₂, ◌∙◌, ℕ, ◌+◌, ◌-◌, List, ◌∷◌, length, arith, length-set}
 use lib.ListN.{set}
 use borrow.Rule.Slice.PartMut.{mid_len}
 use Rattle.octets.specs.Octets.{octets}
@@ -11,6 +11,10 @@ use Rattle.nsa.proofs.Layout.put.Goals as goal
 
 long : (out : List ℕ) {self that : Layout} → length out ≡ length (laid self) → self ≡ that → length out ≡ length (laid that)
 long out h e = h ∙ ap (λ (x : Layout). length (laid x)) e
+
+-- a number of octets, and the number in as many
+behind : (os : List ℕ) (first many count number : ℕ) → os ≡ first ∷ octets many number → many ≡ count → first ≡ count → os ≡ count ∷ octets count number
+behind os first many count number e f g = e ∙ ap₂ (λ (x k : ℕ). x ∷ octets k number) g f
 
 pub returns-in-Marked : goal.returns-in-Marked
 returns-in-Marked c =
@@ -28,7 +32,7 @@ returns-in-Counted c =
     let count : length whole - 1 - 1 ≡ v.count = omega (arith, same, end) in
     framed out c.put_behind-in-Counted.new.out 255 (length whole) same (omega (arith, same, end))
     ∙ ap (λ (os : List ℕ). 255 ∷ os)
-    (c.put_behind-in-Counted.ensures
-    ∙ ap (λ (k : ℕ). v.count ∷ octets (k - 1) v.number) (mid_len 1 (length whole) whole (omega (arith, same, end)))
-    ∙ ap (λ (k : ℕ). v.count ∷ octets k v.number) count)
+    (behind c.put_behind-in-Counted.new.out _ _ v.count v.number c.put_behind-in-Counted.ensures
+    (ap (λ (k : ℕ). k - 1) (mid_len 1 (length whole) whole (omega (arith, same, end))) ∙ count)
+    (omega (arith, same, end)))
     ∙ sym (ap laid v.is)
