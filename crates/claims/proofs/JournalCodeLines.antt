@@ -20,7 +20,18 @@ use Rattle.pasa.specs.Journals.{node_in, nobody, pasa_block, pasa_recovered, pas
 use Rattle.pasa.proofs.JournalPromises.{node_promise, node-asks-nothing, journal-write_promise, journal-write-asks-nothing}
 use Rattle.pasa.proofs.JournalPromises.{journal-recover_promise, journal-recover-asks-nothing, journal-record_promise, journal-record-asks-nothing}
 use Rattle.pasa.proofs.JournalPromises.{crc_promise as pasa-crc-promise, crc-asks-nothing as pasa-crc-asks-nothing}
+use mir.Syntax.{Dict}
+use Rattle.std.specs.declared.clone.Clone.{Ghosts}
+use Rattle.refusal.specs.declared.Refusal.{Refusal}
+use Rattle.refusal.specs.Refusal.{number_of}
+use Rattle.refusal.specs.contracts.Refusal.{the_row}
+use Rattle.refusal.proofs.Refusal.TheLaws.{the_row_laws, the_row_copy}
+use Rattle.journal.specs.AnyFault.{AnyFault}
 use Rattle.claims.specs.JournalCode.{JournalAsksNothing, JournalAnswersAsDefined, TheReader, JournalFields}
+
+-- a refusal as what says which fault it is
+abbrev of_refusals : Ghosts Refusal → Dict → AnyFault
+of_refusals G D = record { type_of = the_row; laws = the_row_laws; copied = the_row_copy; cloned = G; dict = D }
 
 pub journal-asks-nothing : JournalAsksNothing
 journal-asks-nothing = record {
@@ -34,7 +45,8 @@ journal-asks-nothing = record {
   journal_record = record_in_asks-nothing;
   journal_unfit = unfit-asks-nothing;
   journal_take_slot = take-slot-asks-nothing;
-  journal_finish = λ F κ end words. finish-asks-nothing F end words κ;
+  journal_finish = λ G D κ end words. finish-asks-nothing (of_refusals G D) end words κ;
+  journal_finish_any = λ F κ end words. finish-asks-nothing F end words κ;
   reader_recover = reader-recover-asks-nothing;
   pasa_node_to = node-asks-nothing;
   pasa_journal_write = journal-write-asks-nothing;
@@ -57,7 +69,8 @@ journal-answers_as_defined = record {
   journal_refuse_by_number = λ k. refl;
   journal_unfit = unfit_promise;
   journal_take_slot = take-slot_promise;
-  journal_finish = λ F κs end words words' r h. finish_promise F end words κs words' r h;
+  journal_finish = λ G D κs end words words' r h. finish_promise (of_refusals G D) end words κs words' r h number_of (fault-numbered end.refusal);
+  journal_finish_any = λ F κs end words words' r h. finish_promise F end words κs words' r h;
   papers_numbers = λ r. refl;
   papers_progress = λ p. (refl, fault-numbered p.refusal);
   reader_recover = λ κs journal words words' r h. h;
@@ -92,6 +105,10 @@ the_reader = record {
 pub journal-fields : JournalFields
 unfolding with_counts pasa_block pasa_recovered pasa_record bit node_in nobody
 journal-fields = record {
+  recovers_by = λ R number k. refl;
+  refuses_by = λ R number x. refl;
+  goes_on_by = λ R number slot written nodes done. refl;
+  is_at_fault_by = λ R number slot written nodes x done. refl;
   recovers = λ k. refl;
   places = λ k. refl;
   not_placed = λ x. refl;

@@ -3,6 +3,8 @@
 use Rattle.std.specs.Prelude.{ℕ, suc, ◌-◌, ◌/◌, ◌≡◌, Bool, true, false, ◌↔◌, List, ◌++◌, length, take, replicate, set, Option, Some, None, IfSome, Result, Ok, Err}
 use Rattle.refusal.specs.declared.Refusal.{Refusal}
 use Rattle.refusal.specs.Refusal.{number_of}
+use Rattle.refusal.specs.contracts.Refusal.{the_row}
+use Rattle.refusal.proofs.Refusal.TheLaws.{the_row_laws, the_row_copy}
 use Rattle.refusal.specs.Outcome.{outcome_number}
 use seplogic.Ra.Ura.{Ura}
 use base.Logic.{SProp, emp}
@@ -10,6 +12,8 @@ use prog.Memory.{Memory}
 use prog.Routine.{Routine}
 use types.Logic.{Logic}
 use contract.Lifetimes.{Lfts}
+use mir.Syntax.{Dict}
+use Rattle.std.specs.declared.clone.Clone.{Ghosts}
 use contract.Monad.{Fun, fact}
 use Rattle.std.specs.Borrow.{Bor, MutBor}
 use denote.Triple.Clauses.{AtExit}
@@ -75,8 +79,11 @@ pub record JournalAsksNothing : Type 2 where
   pub journal_unfit : (bytes words : ℕ) → unfit-reads.Asked tt (bytes, (words, tt))
   pub journal_take_slot : (κs : Lfts 2) (journal : Slice) (slot : ℕ) (words : SliceMut) (written nodes : ℕ)
       → take-slot-reads.Asked κs (journal, (slot, (words, (written, (nodes, tt)))))
-  -- whatever says which fault it is: what that borrows, if anything, lives as long as it does
-  pub journal_finish : (F : AnyFault) (κ : List ℕ) (end : ProgressOfCode F.type_of.Denot) (words : SliceMut)
+  -- of a refusal, however it is copied
+  pub journal_finish : (G : Ghosts Refusal) (D : Dict) (κ : List ℕ) (end : ProgressOfCode Refusal) (words : SliceMut)
+      → finish-reads.Asked the_row the_row_laws the_row_copy G D (κ, (the_row.lives, tt)) (end, (words, tt))
+  -- of whatever says which fault it is, where what that borrows outlives the call
+  pub journal_finish_any : (F : AnyFault) (κ : List ℕ) (end : ProgressOfCode F.type_of.Denot) (words : SliceMut)
       → finish-reads.Asked F.type_of F.laws F.copied F.cloned F.dict (κ, (F.type_of.lives, tt)) (end, (words, tt))
   pub reader_recover : (κs : Lfts 2) (journal : Slice) (words : SliceMut) → reader-recover-reads.Asked κs (journal, (words, tt))
   pub pasa_node_to : (n : Node) → pasa-node-reads.Asked tt (n, tt)
@@ -110,8 +117,11 @@ pub record JournalAnswersAsDefined : Type 2 where
   pub journal_take_slot : (κs : Lfts 2) (journal : Slice) (slot : ℕ) (words words' : SliceMut) (written nodes : ℕ) (r : ProgressOfCode Refusal)
       → take-slot-reads.Learnt κs (journal, (slot, (words, (written, (nodes, tt))))) r (journal, (slot, (words', (written, (nodes, tt)))))
       → (progress_answer r ≡ (step journal.now slot written nodes words.now).progress) × (words'.now ≡ (step journal.now slot written nodes words.now).words)
-  -- whatever says which fault it is, and whatever numbers it has there but 0: a refusal and the papers' numbers, or an octet and its own
-  pub journal_finish : (F : AnyFault) (κs : Lfts 2) (end : ProgressOfCode F.type_of.Denot) (words words' : SliceMut) (r : Result ℕ F.type_of.Denot)
+  pub journal_finish : (G : Ghosts Refusal) (D : Dict) (κs : Lfts 2) (end : ProgressOfCode Refusal) (words words' : SliceMut) (r : Result ℕ Refusal)
+      → finish-reads.Learnt the_row the_row_laws the_row_copy G D κs (end, (words, tt)) r (end, (words', tt))
+      → (recovered_answer r ≡ (finished (progress_answer end) words.now).answer) × (words'.now ≡ (finished (progress_answer end) words.now).words)
+  -- whatever says which fault it is, by whatever numbers it has, but that the fault there has not 0, which says that there is none
+  pub journal_finish_any : (F : AnyFault) (κs : Lfts 2) (end : ProgressOfCode F.type_of.Denot) (words words' : SliceMut) (r : Result ℕ F.type_of.Denot)
       → finish-reads.Learnt F.type_of F.laws F.copied F.cloned F.dict κs (end, (words, tt)) r (end, (words', tt))
       → (number : F.type_of.Denot → ℕ) → IfSome end.refusal (λ x. number x ≡ 0 → ⊥)
       → (recovered_by number r ≡ (finished (progress_by number end) words.now).answer) × (words'.now ≡ (finished (progress_by number end) words.now).words)
@@ -188,7 +198,16 @@ pub record TheReader : Type 2 where
       × ((place.clauses 𝓛 mem run κs (reader, tt)).ensures tt n end ≡ fact 𝓤 (n ≡ reader.slot))
 
 -- the same numbers in fields of the same names, and no field more; a node that is not found is all zeros
-pub record JournalFields : Type 0 where
+pub record JournalFields : Type 1 where
+  -- any numbers for each case of an answer
+  pub recovers_by : (R : Type 0) (number : R → ℕ) (k : ℕ) → recovered_by number (Ok k) ≡ record { refusal = 0; nodes = k }
+  pub refuses_by : (R : Type 0) (number : R → ℕ) (x : R) → recovered_by number (Err x) ≡ record { refusal = number x; nodes = 0 }
+  pub goes_on_by : (R : Type 0) (number : R → ℕ) (slot written nodes : ℕ) (done : Bool)
+      → progress_by number (record { slot = slot; written = written; nodes = nodes; refusal = None; done = done })
+      ≡ record { slot = slot; written = written; nodes = nodes; refusal = 0; done = done }
+  pub is_at_fault_by : (R : Type 0) (number : R → ℕ) (slot written nodes : ℕ) (x : R) (done : Bool)
+      → progress_by number (record { slot = slot; written = written; nodes = nodes; refusal = Some x; done = done })
+      ≡ record { slot = slot; written = written; nodes = nodes; refusal = number x; done = done }
   -- the papers' numbers for each case of an answer, and they leave one answer; what a refused recovery comes to is `journal_refuse` above
   pub recovers : (k : ℕ) → recovered_answer (Ok k) ≡ record { refusal = 0; nodes = k }
   pub places : (k : ℕ) → placed_answer (Ok k) ≡ record { refusal = 0; slot = k }
