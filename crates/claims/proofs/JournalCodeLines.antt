@@ -1,5 +1,6 @@
 -- The front page's lines on the code of request Four, each quoted from the function's own contract. Assumes nothing.
 use mathlib.Core.Path.{refl}
+use mathlib.Core.List.{not-mem-nil}
 use lib.ListN.{length}
 use borrow.Author.Tests.{eq-eqb, ne_eqb}
 use Rattle.node.specs.Node.{with_counts}
@@ -45,7 +46,7 @@ journal-asks-nothing = record {
   journal_record = record_in_asks-nothing;
   journal_unfit = unfit-asks-nothing;
   journal_take_slot = take-slot-asks-nothing;
-  journal_finish = λ G D κ end words. finish-asks-nothing (of_refusals G D) end words κ;
+  journal_finish = λ G D κs end words a none. absurd (not-mem-nil none);
   journal_finish_any = λ F κ end words. finish-asks-nothing F end words κ;
   reader_recover = reader-recover-asks-nothing;
   pasa_node_to = node-asks-nothing;

@@ -80,8 +80,8 @@ pub record JournalAsksNothing : Type 2 where
   pub journal_take_slot : (κs : Lfts 2) (journal : Slice) (slot : ℕ) (words : SliceMut) (written nodes : ℕ)
       → take-slot-reads.Asked κs (journal, (slot, (words, (written, (nodes, tt)))))
   -- of a refusal, however it is copied
-  pub journal_finish : (G : Ghosts Refusal) (D : Dict) (κ : List ℕ) (end : ProgressOfCode Refusal) (words : SliceMut)
-      → finish-reads.Asked the_row the_row_laws the_row_copy G D (κ, (the_row.lives, tt)) (end, (words, tt))
+  pub journal_finish : (G : Ghosts Refusal) (D : Dict) (κs : Lfts 2) (end : ProgressOfCode Refusal) (words : SliceMut)
+      → finish-reads.Asked the_row the_row_laws the_row_copy G D κs (end, (words, tt))
   -- of whatever says which fault it is, where what that borrows outlives the call
   pub journal_finish_any : (F : AnyFault) (κ : List ℕ) (end : ProgressOfCode F.type_of.Denot) (words : SliceMut)
       → finish-reads.Asked F.type_of F.laws F.copied F.cloned F.dict (κ, (F.type_of.lives, tt)) (end, (words, tt))
