@@ -1,6 +1,5 @@
 -- The front page's lines on the code of request Four, each quoted from the function's own contract. Assumes nothing.
 use mathlib.Core.Path.{refl}
-use mathlib.Core.List.{not-mem-nil}
 use lib.ListN.{length}
 use borrow.Author.Tests.{eq-eqb, ne_eqb}
 use Rattle.node.specs.Node.{with_counts}
@@ -11,7 +10,7 @@ use Rattle.journal.specs.Recovery.{unfit, refuse_recovery}
 use Rattle.journal.specs.Reader.{begin}
 use Rattle.journal.proofs.RecoverLaws.{finished-known, finished-fault, fault-numbered}
 use Rattle.journal.proofs.Promises.{one-recovered, one-placed, one-found, one-progress, unfit_promise, unfit-asks-nothing, take-slot_promise}
-use Rattle.journal.proofs.Promises.{take-slot-asks-nothing, finish_promise, finish-asks-nothing}
+use Rattle.journal.proofs.Promises.{take-slot-asks-nothing, finish_promise, finish-asks-nothing, finish-any_promise, finish-any-asks-nothing}
 use Rattle.reader.specs.SameAnswers.{asked, asked_all, by_reader}
 use Rattle.reader.proofs.Promises.{start_promise, start-asks-nothing, next_promise, next-asks-nothing, place_promise, place-asks-nothing}
 use Rattle.reader.proofs.Promises.{recover-asks-nothing as reader-recover-asks-nothing}
@@ -21,18 +20,7 @@ use Rattle.pasa.specs.Journals.{node_in, nobody, pasa_block, pasa_recovered, pas
 use Rattle.pasa.proofs.JournalPromises.{node_promise, node-asks-nothing, journal-write_promise, journal-write-asks-nothing}
 use Rattle.pasa.proofs.JournalPromises.{journal-recover_promise, journal-recover-asks-nothing, journal-record_promise, journal-record-asks-nothing}
 use Rattle.pasa.proofs.JournalPromises.{crc_promise as pasa-crc-promise, crc-asks-nothing as pasa-crc-asks-nothing}
-use mir.Syntax.{Dict}
-use Rattle.std.specs.declared.clone.Clone.{Ghosts}
-use Rattle.refusal.specs.declared.Refusal.{Refusal}
-use Rattle.refusal.specs.Refusal.{number_of}
-use Rattle.refusal.specs.contracts.Refusal.{the_row}
-use Rattle.refusal.proofs.Refusal.TheLaws.{the_row_laws, the_row_copy}
-use Rattle.journal.specs.AnyFault.{AnyFault}
 use Rattle.claims.specs.JournalCode.{JournalAsksNothing, JournalAnswersAsDefined, TheReader, JournalFields}
-
--- a refusal as what says which fault it is
-abbrev of_refusals : Ghosts Refusal → Dict → AnyFault
-of_refusals G D = record { type_of = the_row; laws = the_row_laws; copied = the_row_copy; cloned = G; dict = D }
 
 pub journal-asks-nothing : JournalAsksNothing
 journal-asks-nothing = record {
@@ -46,8 +34,8 @@ journal-asks-nothing = record {
   journal_record = record_in_asks-nothing;
   journal_unfit = unfit-asks-nothing;
   journal_take_slot = take-slot-asks-nothing;
-  journal_finish = λ G D κs end words a none. absurd (not-mem-nil none);
-  journal_finish_any = λ F κ end words. finish-asks-nothing F end words κ;
+  journal_finish = finish-asks-nothing;
+  journal_finish_any = λ F κ end words. finish-any-asks-nothing F end words κ;
   reader_recover = reader-recover-asks-nothing;
   pasa_node_to = node-asks-nothing;
   pasa_journal_write = journal-write-asks-nothing;
@@ -70,8 +58,8 @@ journal-answers_as_defined = record {
   journal_refuse_by_number = λ k. refl;
   journal_unfit = unfit_promise;
   journal_take_slot = take-slot_promise;
-  journal_finish = λ G D κs end words words' r h. finish_promise (of_refusals G D) end words κs words' r h number_of (fault-numbered end.refusal);
-  journal_finish_any = λ F κs end words words' r h. finish_promise F end words κs words' r h;
+  journal_finish = finish_promise;
+  journal_finish_any = λ F κs end words words' r h. finish-any_promise F end words κs words' r h;
   papers_numbers = λ r. refl;
   papers_progress = λ p. (refl, fault-numbered p.refusal);
   reader_recover = λ κs journal words words' r h. h;

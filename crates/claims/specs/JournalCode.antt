@@ -79,7 +79,7 @@ pub record JournalAsksNothing : Type 2 where
   pub journal_unfit : (bytes words : ℕ) → unfit-reads.Asked tt (bytes, (words, tt))
   pub journal_take_slot : (κs : Lfts 2) (journal : Slice) (slot : ℕ) (words : SliceMut) (written nodes : ℕ)
       → take-slot-reads.Asked κs (journal, (slot, (words, (written, (nodes, tt)))))
-  -- of a refusal, however it is copied
+  -- of a refusal, however it is copied, at any lifetimes, since it borrows nothing
   pub journal_finish : (G : Ghosts Refusal) (D : Dict) (κs : Lfts 2) (end : ProgressOfCode Refusal) (words : SliceMut)
       → finish-reads.Asked the_row the_row_laws the_row_copy G D κs (end, (words, tt))
   -- of whatever says which fault it is, where what that borrows outlives the call

@@ -5,13 +5,18 @@ use Rattle.std.proofs.lemmas.Bool.{false≢true}
 use Rattle.refusal.proofs.Numbers.{some, one}
 use Rattle.refusal.proofs.Outcomes.{one-answer}
 use mathlib.Core.Path.{◌≡◌, ap₂}
-use mathlib.Core.List.{List}
+use mathlib.Core.List.{List, not-mem-nil}
 use Prim.Native.Nat.{ℕ}
 use contract.Lifetimes.{Lfts}
 use Rattle.std.specs.Borrow.{Bor, MutBor}
 use Rattle.address.specs.declared.Address.{Address}
 use Rattle.std.specs.Prelude.{Result, Option, Some, None, Bool, IfSome}
+use mir.Syntax.{Dict}
+use Rattle.std.specs.declared.clone.Clone.{Ghosts}
 use Rattle.refusal.specs.declared.Refusal.{Refusal}
+use Rattle.refusal.specs.Refusal.{number_of}
+use Rattle.refusal.specs.contracts.Refusal.{the_row}
+use Rattle.refusal.proofs.Refusal.TheLaws.{the_row_laws, the_row_copy}
 use Rattle.node.specs.declared.Node.{Node}
 use Rattle.journal.specs.declared.Progress.{Progress as ProgressOfCode}
 use Rattle.refusal.specs.Outcome.{outcome_number}
@@ -20,6 +25,7 @@ use Rattle.journal.specs.Reader.{Progress, progress_by, fault_answer, progress_a
 use Rattle.journal.specs.AnyFault.{AnyFault}
 use Rattle.journal.specs.Writing.{Placed, placed_answer, writing}
 use Rattle.journal.specs.Record.{Record, record_answer, record_in}
+use Rattle.journal.proofs.RecoverLaws.{fault-numbered}
 use Rattle.journal.proofs.recover.Reads as recover-reads
 use Rattle.journal.proofs.unfit.Reads as unfit-reads
 use Rattle.journal.proofs.take_slot.Reads as take-slot-reads
@@ -67,16 +73,32 @@ pub take-slot-asks-nothing : (κs : Lfts 2) (journal : Bor (List ℕ)) (slot : �
     → take-slot-reads.Asked κs (journal, (slot, (words, (written, (nodes, tt)))))
 take-slot-asks-nothing κs journal slot words written nodes = tt
 
+-- of whatever says which fault it is, by whatever numbers, but that the fault there has not 0, which says that there is none
 module _ (F : AnyFault) (end : ProgressOfCode F.type_of.Denot) (words : MutBor (List ℕ)) where
-  pub finish_promise : (κs : Lfts 2) (last : MutBor (List ℕ)) (r : Result ℕ F.type_of.Denot)
+  pub finish-any_promise : (κs : Lfts 2) (last : MutBor (List ℕ)) (r : Result ℕ F.type_of.Denot)
       → finish-reads.Learnt F.type_of F.laws F.copied F.cloned F.dict κs (end, (words, tt)) r (end, (last, tt))
       → (number : F.type_of.Denot → ℕ) → IfSome end.refusal (λ x. number x ≡ 0 → ⊥)
       → (recovered_by number r ≡ (finished (progress_by number end) words.now).answer) × (last.now ≡ (finished (progress_by number end) words.now).words)
-  finish_promise κs last r h = h
+  finish-any_promise κs last r h = h
 
   -- what the type borrows, if anything, lives as long as it does
-  pub finish-asks-nothing : (κ : List ℕ) → finish-reads.Asked F.type_of F.laws F.copied F.cloned F.dict (κ, (F.type_of.lives, tt)) (end, (words, tt))
-  finish-asks-nothing κ = λ a h. h
+  pub finish-any-asks-nothing : (κ : List ℕ) → finish-reads.Asked F.type_of F.laws F.copied F.cloned F.dict (κ, (F.type_of.lives, tt)) (end, (words, tt))
+  finish-any-asks-nothing κ = λ a h. h
+
+-- a refusal as what says which fault it is, however it is copied
+abbrev pub of_refusals : Ghosts Refusal → Dict → AnyFault
+of_refusals G D = record { type_of = the_row; laws = the_row_laws; copied = the_row_copy; cloned = G; dict = D }
+
+-- of a refusal, by the papers' numbers
+module _ (G : Ghosts Refusal) (D : Dict) (κs : Lfts 2) (end : ProgressOfCode Refusal) (words : MutBor (List ℕ)) where
+  pub finish_promise : (last : MutBor (List ℕ)) (r : Result ℕ Refusal)
+      → finish-reads.Learnt the_row the_row_laws the_row_copy G D κs (end, (words, tt)) r (end, (last, tt))
+      → (recovered_answer r ≡ (finished (progress_answer end) words.now).answer) × (last.now ≡ (finished (progress_answer end) words.now).words)
+  finish_promise last r h = finish-any_promise (of_refusals G D) end words κs last r h number_of (fault-numbered end.refusal)
+
+  -- at any lifetimes, since a refusal borrows nothing
+  pub finish-asks-nothing : finish-reads.Asked the_row the_row_laws the_row_copy G D κs (end, (words, tt))
+  finish-asks-nothing = λ a none. absurd (not-mem-nil none)
 
 -- the numbers leave one answer
 
